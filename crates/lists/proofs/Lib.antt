@@ -1,0 +1,4 @@
+pub mod Cases
+pub mod TestLaws
+pub mod MemberLaws
+pub mod IndexLaws

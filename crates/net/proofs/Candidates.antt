@@ -1,0 +1,95 @@
+-- The candidates of a search: what the list of those after `last` holds, and its first. Being first settles it, so whatever finds a first candidate finds
+-- the one of `next`.
+use mathlib.Core.Path.{_≡_, refl, sym, ap}
+use mathlib.Core.Logic.{_⊎_, inl, inr, ⊎-elim}
+use mathlib.Core.Option.{Option, none, some}
+use mathlib.Core.List.{List, [], _∷_, _++_, map, List·Memᴰ, Memᴰ·map, Memᴰ·of-map, Memᴰ·cast}
+use Prim.Native.Nat.{ℕ}
+use lib.Dec.{T}
+use Rattle.lists.proofs.TestLaws.{keep-e, keep-i}
+use Rattle.lists.proofs.MemberLaws.{flatMap-e, flatMap-i}
+use Rattle.net.specs.Net.{Net}
+use Rattle.net.specs.Route.{endOf, leaves, precedes, leaving, inOrder}
+use Rattle.net.specs.Search.{candidates, waiting, next}
+use Rattle.net.proofs.Order.{AtMost, at-most-same}
+use Rattle.net.proofs.Sorted.{head-none, head-some, inOrder-e, inOrder-i, inOrder-increasing}
+use Rattle.net.proofs.Listing.{leaving-e, leaving-i}
+
+module _ (net : Net) (s : ℕ) where
+  -- c is the chain of a label with an arc more that leaves its end
+  pub record Extends (taken : List (List ℕ)) (c : List ℕ) : Type 0 where
+    pub label : List ℕ
+    pub last-arc : ℕ
+    pub stands : List·Memᴰ label taken
+    pub leaves-end : T (leaves net (endOf net s label) last-arc)
+    pub is : c ≡ label ++ (last-arc ∷ [])
+
+  pub record Candidate (taken : List (List ℕ)) (last c : List ℕ) : Type 0 where
+    pub extends : Extends taken c
+    pub after : T (precedes net last c)
+
+  -- the first candidate after `last`
+  pub record Leads (taken : List (List ℕ)) (last c : List ℕ) : Type 0 where
+    pub is-candidate : Candidate taken last c
+    pub least : (d : List ℕ) → Candidate taken last d → AtMost net c d
+
+  more : List ℕ → List (List ℕ)
+  more p = map (λ a. p ++ (a ∷ [])) (leaving net (endOf net s p))
+
+  pub candidate-e : (taken : List (List ℕ)) (c : List ℕ) → List·Memᴰ c (candidates net s taken) → Extends taken c
+  unfolding candidates more
+  candidate-e taken c m =
+      let w = flatMap-e more c taken m in
+      let k = Memᴰ·of-map (λ a. w .0 ++ (a ∷ [])) (leaving net (endOf net s (w .0))) (w .2) in
+      record {
+        label = w .0;
+        last-arc = k .0;
+        stands = w .1;
+        leaves-end = leaving-e net s (endOf net s (w .0)) (k .0) (k .1);
+        is = sym (k .2);
+      }
+
+  pub candidate-i : (taken : List (List ℕ)) (c : List ℕ) → Extends taken c → List·Memᴰ c (candidates net s taken)
+  unfolding candidates more
+  candidate-i taken c x =
+      Memᴰ·cast (x .is)
+      (flatMap-i more (x .stands) (Memᴰ·map (λ a. x .label ++ (a ∷ [])) (leaving-i net s (endOf net s (x .label)) (x .last-arc) (x .leaves-end))))
+
+  pub waiting-e : (taken : List (List ℕ)) (last c : List ℕ) → List·Memᴰ c (waiting net s taken last) → Candidate taken last c
+  unfolding waiting
+  waiting-e taken last c m =
+      let k = keep-e (precedes net last) c (candidates net s taken) m in
+      record { extends = candidate-e taken c (k .0); after = k .1 }
+
+  pub waiting-i : (taken : List (List ℕ)) (last c : List ℕ) → Candidate taken last c → List·Memᴰ c (waiting net s taken last)
+  unfolding waiting
+  waiting-i taken last c k = keep-i (precedes net last) (candidate-i taken c (k .extends)) (k .after)
+
+  module _ (taken : List (List ℕ)) (last : List ℕ) where
+    pub next-none : next net s taken last ≡ none → (c : List ℕ) → Candidate taken last c → ⊥
+    unfolding next
+    next-none e c k = head-none net (inOrder net (waiting net s taken last)) e c (inOrder-i net (waiting-i taken last c k))
+
+    pub next-some : (c : List ℕ) → next net s taken last ≡ some c → Leads taken last c
+    unfolding next
+    next-some c e =
+        let ws = waiting net s taken last in
+        let f = head-some net (inOrder net ws) c (inOrder-increasing net ws) e in
+        record {
+          is-candidate = waiting-e taken last c (inOrder-e net c ws (f .stands));
+          least = λ d k. ⊎-elim (λ i. inl (sym i)) inr (f .leads d (inOrder-i net (waiting-i taken last d k)));
+        }
+
+    pub next-is : (c : List ℕ) → Leads taken last c → next net s taken last ≡ some c
+    next-is c l = go (next net s taken last) refl
+      where
+        go : (o : Option (List ℕ)) → next net s taken last ≡ o → o ≡ some c
+        go none e = absurd (next-none e c (l .is-candidate))
+        go (some d) e = let k = next-some d e in ap some (at-most-same net d c (k .least c (l .is-candidate)) (l .least d (k .is-candidate)))
+
+    pub next-is-none : ((c : List ℕ) → Candidate taken last c → ⊥) → next net s taken last ≡ none
+    next-is-none h = go (next net s taken last) refl
+      where
+        go : (o : Option (List ℕ)) → next net s taken last ≡ o → o ≡ none
+        go none e = refl
+        go (some d) e = absurd (h d (next-some d e .is-candidate))

@@ -1,0 +1,16 @@
+pub mod Figures
+pub mod Valid
+pub mod Order
+pub mod Overlap
+pub mod Chains
+pub mod Sorted
+pub mod Listing
+pub mod Simple
+pub mod Live
+pub mod Answer
+pub mod Candidates
+pub mod Step
+pub mod Ends
+pub mod Turns
+pub mod Labels
+pub mod Bound

@@ -1,0 +1,84 @@
+-- Rule 7 of document 01 and what a query shows, as far as it needs no bytes: outcomes 0, 1, 7, 8, 9 and 11.
+use mathlib.Core.List.{List, [], _∷_, _++_, map}
+use mathlib.Core.Bool.{not, _&&_, cond}
+use Prim.Native.Nat.{ℕ, zero, suc, _-_}
+use lib.Dec.{ltb, leb, eqb}
+use lib.ListN.{length, replicate}
+use Rattle.net.specs.Limits.{mostRoutes, mostB}
+use Rattle.net.specs.Route.{lengthOf}
+use Rattle.net.specs.Round.{Query, Ending, answered, unanswered, refused, ending}
+
+-- The rounds that follow one that ended so: those after its answer, if it has one.
+unfoldable pub goOn : Ending → (List ℕ → List Ending) → List Ending
+goOn (answered p n) on = answered p n ∷ on p
+goOn (unanswered n) on = unanswered n ∷ []
+goOn refused on = refused ∷ []
+
+-- Rule 7. "The query ends after k answers, or after the first round that has none." The rounds still to make, after the earlier answers.
+unfoldable pub rounds : Query → ℕ → List (List ℕ) → List Ending
+unfolding ending goOn
+rounds q zero earlier = []
+rounds q (suc k) earlier = goOn (ending q earlier) (λ p. rounds q k (earlier ++ (p ∷ [])))
+
+-- "holding length, number of arcs and label count"
+pub record Summary : Type 0 where
+  pub len : ℕ
+  pub arcs : ℕ
+  pub labels : ℕ
+
+-- "A round without an answer has length 0 and arcs 0, and its label count; under 11 that count is the room."
+unfoldable pub summary : Query → Ending → Summary
+unfolding lengthOf
+summary q (answered p n) = record { len = lengthOf (q .net) p; arcs = length p; labels = n }
+summary q (unanswered n) = record { len = 0; arcs = 0; labels = n }
+summary q refused = record { len = 0; arcs = 0; labels = q .room }
+
+-- "Rounds not begun have three zeros."
+abbrev pub notBegun : Summary
+notBegun = record { len = 0; arcs = 0; labels = 0 }
+
+unfoldable pub summaries : Query → List Ending → List Summary
+unfolding summary
+summaries q rs = map (summary q) rs ++ replicate (q .k - length rs) notBegun
+
+-- The answers, round by round.
+unfoldable pub answers : List Ending → List (List ℕ)
+answers [] = []
+answers (answered p n ∷ rs) = p ∷ answers rs
+answers (unanswered n ∷ rs) = answers rs
+answers (refused ∷ rs) = answers rs
+
+-- "Where no number is named, 0 is returned beside the outcome."
+pub record Told : Type 0 where
+  pub outcome : ℕ
+  pub number : ℕ
+
+-- 0: "k routes found"; 1: "fewer than k, and no further one exists"; 11: "a round's label count exceeds the room", and "the number of the refused round is
+-- returned". The rounds are those from number i on.
+unfoldable pub told : ℕ → List Ending → Told
+told i [] = record { outcome = 0; number = 0 }
+told i (answered p n ∷ rs) = told (suc i) rs
+told i (unanswered n ∷ rs) = record { outcome = 1; number = 0 }
+told i (refused ∷ rs) = record { outcome = 11; number = i }
+
+-- 7: "s or t is not below the node count, or s = t"; 8: "k is outside its limits"; 9: "the threshold is outside its limits"; in this order. 0: none of them.
+unfoldable pub refusal : Query → ℕ
+refusal q =
+    cond (not (ltb (q .s) (q .net .nodes) && ltb (q .t) (q .net .nodes) && not (eqb (q .s) (q .t)))) 7
+    (cond (not (leb 1 (q .k) && leb (q .k) mostRoutes)) 8
+    (cond (not (leb 1 (q .b) && leb (q .b) mostB && ltb (q .a) (q .b))) 9 0))
+
+pub record Reply : Type 0 where
+  pub told : Told
+  pub routes : List (List ℕ)
+  pub summaries : List Summary
+
+-- What a query shows: a refusal, or what its rounds make.
+unfoldable pub replyTo : Query → ℕ → List Ending → Reply
+unfolding told answers summaries
+replyTo q zero rs = record { told = told 1 rs; routes = answers rs; summaries = summaries q rs }
+replyTo q (suc n) rs = record { told = record { outcome = suc n; number = 0 }; routes = []; summaries = [] }
+
+unfoldable pub reply : Query → Reply
+unfolding refusal rounds replyTo
+reply q = replyTo q (refusal q) (rounds q (q .k) [])

@@ -1,0 +1,4 @@
+pub mod PartLaws
+pub mod NumberLaws
+pub mod RecordLaws
+pub mod FillLaws
