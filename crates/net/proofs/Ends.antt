@@ -5,17 +5,17 @@ use mathlib.Core.Path.{_≡_, refl, sym, ap, ap₂, subst, _∙_}
 use mathlib.Core.Logic.{_⊎_, inl, inr}
 use mathlib.Core.Option.{Option, none, some}
 use mathlib.Core.List.{List, [], _∷_, _++_, List·Memᴰ, List·Memᴰ·head, List·Memᴰ·append-cases, List·Memᴰ·eq-of-singleton, Memᴰ·append-right, append-assoc}
-use mathlib.Core.Bool.{Bool, false, not}
+use mathlib.Core.Bool.{Bool, true, false, not}
 use Prim.Native.Nat.{ℕ, _<_, _≤_, _+_}
 use native.Mathlib.Omega.{arith}
-use borrow.Author.Tests.{lt-ltb, le-ltb}
+use borrow.Author.Tests.{lt-ltb, le-ltb, ltb-false}
 use lib.Dec.{T, ltb, T-not, not-T}
 use lib.ListN.{length, take, length-append}
 use lib.Seq.{take-all, take-append-seam}
 use Rattle.lists.specs.Tests.{keep}
 use Rattle.lists.proofs.TestLaws.{keep-e, keep-i}
-use Rattle.net.specs.Route.{endOf, precedes}
-use Rattle.net.specs.Round.{Query, lives, answer, countedWith, counted, count, answered, unanswered, refused, judged, ending}
+use Rattle.net.specs.Route.{endOf, partial, precedes}
+use Rattle.net.specs.Round.{Query, lives, answer, countedWith, counted, count, Ending, answered, unanswered, refused, judged, ending}
 use Rattle.net.specs.Labels.{labels, held}
 use Rattle.net.specs.Search.{upTo}
 use Rattle.net.proofs.Valid.{Valid}
@@ -99,40 +99,62 @@ module _ (q : Query) (earlier : List (List ℕ)) (v : Valid q) where
   unfolding counted countedWith
   none-counted short = ap (countedWith q earlier) (none-answer short)
 
-  -- ---- the three ends, as a round has them
+  -- ---- the three ends, as a round has them: how it ends, and what is counted, as much as there is room for
 
-  -- what a round counts, its answer, and that they fit, settle how it ends and what its labels hold
+  abbrev pub Ends : List (List ℕ) → Ending → Type 0
+  Ends taken e = (ending q earlier ≡ e) × (take (q .room) (counted q earlier) ≡ taken)
+
   judged-fits : (w : Option (List ℕ)) (n : ℕ) → answer q earlier ≡ w → count q earlier ≡ n → n ≤ q .room → ending q earlier ≡ judged false n w
   unfolding ending
   judged-fits w n e f h = ap₂ (λ m o. judged (ltb (q .room) m) m o) f e ∙ ap (λ b. judged b n w) (le-ltb (q .room) n h)
 
-  held-fits : (ps : List (List ℕ)) → counted q earlier ≡ ps → length ps ≤ q .room → held q earlier ≡ labels ps
-  unfolding held
-  held-fits ps e h = ap (λ l. labels (take (q .room) l)) e ∙ ap labels (take-all (q .room) ps h)
+  take-fits : (ps : List (List ℕ)) → counted q earlier ≡ ps → length ps ≤ q .room → take (q .room) (counted q earlier) ≡ ps
+  take-fits ps e h = ap (take (q .room)) e ∙ take-all (q .room) ps h
 
   module _ (taken : List (List ℕ)) (c : List ℕ) (inv : taken ++ (c ∷ []) ≡ upTo q earlier c) (short : Short taken) where
-    pub ends-found : endOf (q .net) (q .s) c ≡ q .t → length (taken ++ (c ∷ [])) ≤ q .room
-        → (ending q earlier ≡ answered c (length (taken ++ (c ∷ [])))) × (held q earlier ≡ labels (taken ++ (c ∷ [])))
+    pub ends-found : endOf (q .net) (q .s) c ≡ q .t → length (taken ++ (c ∷ [])) ≤ q .room → Ends (taken ++ (c ∷ [])) (answered c (length (taken ++ (c ∷ []))))
     unfolding judged count
     ends-found e h = (
       judged-fits (some c) (length (taken ++ (c ∷ []))) (found-answer taken c inv short e) (ap length (found-counted taken c inv short e)) h,
-      held-fits (taken ++ (c ∷ [])) (found-counted taken c inv short e) h,
+      take-fits (taken ++ (c ∷ [])) (found-counted taken c inv short e) h,
     )
 
-    pub ends-refused : length taken ≡ q .room → (ending q earlier ≡ refused) × (held q earlier ≡ labels taken)
-    unfolding judged count ending held
+    pub ends-refused : length taken ≡ q .room → Ends taken refused
+    unfolding judged count ending
     ends-refused full =
         let w = counted-begins taken c inv short in
         let e : counted q earlier ≡ taken ++ ((c ∷ []) ++ w .0) = w .1 ∙ append-assoc taken (c ∷ []) (w .0) in
         let h : q .room < length (counted q earlier) = omega (arith, ap length e, length-append taken ((c ∷ []) ++ w .0)) in (
           ap (λ b. judged b (count q earlier) (answer q earlier)) (lt-ltb (q .room) (length (counted q earlier)) h),
-          ap (λ l. labels (take (q .room) l)) e ∙ ap labels (subst (λ n. take n (taken ++ ((c ∷ []) ++ w .0)) ≡ taken) full (take-append-seam taken ((c ∷ []) ++ w .0))),
+          ap (take (q .room)) e ∙ subst (λ n. take n (taken ++ ((c ∷ []) ++ w .0)) ≡ taken) full (take-append-seam taken ((c ∷ []) ++ w .0)),
         )
 
-  pub ends-none : (taken : List (List ℕ)) → taken ≡ lives q earlier → Short taken → length taken ≤ q .room
-      → (ending q earlier ≡ unanswered (length taken)) × (held q earlier ≡ labels taken)
+  pub ends-none : (taken : List (List ℕ)) → taken ≡ lives q earlier → Short taken → length taken ≤ q .room → Ends taken (unanswered (length taken))
   unfolding judged count
   ends-none taken inv short h =
       let s = subst Short inv short in
       let e = none-counted s ∙ sym inv in
-      (judged-fits none (length taken) (none-answer s) (ap length e) h, held-fits taken e h)
+      (judged-fits none (length taken) (none-answer s) (ap length e) h, take-fits taken e h)
+
+  -- what the labels then hold
+  pub ends-held : (taken : List (List ℕ)) → take (q .room) (counted q earlier) ≡ taken → held q earlier ≡ labels taken
+  unfolding held
+  ends-held taken e = ap labels e
+
+  -- ---- what an ending says
+
+  pub ending-answered : (p : List ℕ) (n : ℕ) → ending q earlier ≡ answered p n → (answer q earlier ≡ some p) × (count q earlier ≡ n) × (n ≤ q .room)
+  unfolding ending judged
+  ending-answered p n e = go (ltb (q .room) (count q earlier)) refl (answer q earlier) e
+    where
+      go : (b : Bool) → ltb (q .room) (count q earlier) ≡ b → (o : Option (List ℕ)) → judged b (count q earlier) o ≡ answered p n → (o ≡ some p) × (count q earlier ≡ n) × (n ≤ q .room)
+      go true l o k = let z : _≡_ {A = ℕ} 0 1 = cc in absurd (omega arith)
+      go false l none k = let z : _≡_ {A = ℕ} 0 1 = cc in absurd (omega arith)
+      go false l (some w) k =
+          let i : w ≡ p = cc in
+          let j : count q earlier ≡ n = cc in
+          (ap some i, j, omega (arith, ltb-false (q .room) (count q earlier) l))
+
+  -- an answer is a route
+  pub answered-partial : (p : List ℕ) (n : ℕ) → ending q earlier ≡ answered p n → T (partial (q .net) (q .s) p)
+  answered-partial p n e = answer-some q earlier v p (ending-answered p n e .0) .is-eligible .is-partial

@@ -5,11 +5,11 @@ use Rattle.net.specs.Outcome.{reply}
 use Rattle.net.specs.Labels.{start, extend, held}
 use Rattle.net.specs.Figures.{figures, onT, r03}
 
-pub figures-hold : map (λ f. reply (f .asked)) figures ≡ map (λ f. f .due) figures
+pub figures-hold : map (λ f. reply (f .asked) (f .k)) figures ≡ map (λ f. f .due) figures
 unfolding reply
 figures-hold = refl
 
 -- The labels of P2's second round.
-pub labels-of-P2 : held (onT 4 1 2) (r03 ∷ []) ≡ start ∷ extend 0 0 ∷ extend 1 2 ∷ extend 0 1 ∷ extend 2 4 ∷ []
+pub labels-of-P2 : held (onT 1 2) (r03 ∷ []) ≡ start ∷ extend 0 0 ∷ extend 1 2 ∷ extend 0 1 ∷ extend 2 4 ∷ []
 unfolding held
 labels-of-P2 = refl

@@ -15,10 +15,12 @@ use Rattle.net.specs.Net.{Net}
 use Rattle.net.specs.Route.{precedes}
 use Rattle.net.specs.Round.{Query, answer, countedWith, counted}
 use Rattle.net.specs.Labels.{extend, same, placeOf, labelFrom, labels, held, chainOf, chainsFrom, chains}
+use Rattle.net.specs.Search.{upTo}
 use Rattle.net.proofs.Valid.{Valid}
 use Rattle.net.proofs.Order.{beginning-precedes, precedes-irrefl, precedes-trans, then-at-most}
 use Rattle.net.proofs.Sorted.{Increasing, increasing-parts, increasing-front}
 use Rattle.net.proofs.Live.{lives-e, lives-i, live-but-last}
+use Rattle.net.proofs.Step.{upTo-e, upTo-i}
 use Rattle.net.proofs.Answer.{answer-some, counted-increasing, counted-e, counted-i}
 
 -- ---- the place of a chain in a list
@@ -203,6 +205,12 @@ module _ (q : Query) (earlier : List (List ℕ)) (v : Valid q) where
   counted-closed (some w) e x a m =
       let k = counted-e q earlier v w (answer-some q earlier v w e) (x ++ (a ∷ [])) m in
       counted-i q earlier v w x (live-but-last q earlier v x a (k .0)) (inr (then-at-most (q .net) x (x ++ (a ∷ [])) w (front-precedes x a) (k .1)))
+
+  pub upTo-closed : (c : List ℕ) → Closed (upTo q earlier c)
+  unfolding Closed
+  upTo-closed c x a m =
+      let k = upTo-e q earlier v c (x ++ (a ∷ [])) m in
+      upTo-i q earlier v c x (live-but-last q earlier v x a (k .0)) (inr (then-at-most (q .net) x (x ++ (a ∷ [])) c (front-precedes x a) (k .1)))
 
   -- a beginning of a closed list in order is closed
   take-closed : (n : ℕ) (ps : List (List ℕ)) → Increasing (q .net) ps → Closed ps → Closed (take n ps)

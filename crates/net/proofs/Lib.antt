@@ -2,6 +2,7 @@ pub mod Figures
 pub mod Valid
 pub mod Order
 pub mod Overlap
+pub mod Lengths
 pub mod Chains
 pub mod Sorted
 pub mod Listing

@@ -2,7 +2,7 @@
 use mathlib.Core.Path.{_≡_, sym, ap, subst, _∙_}
 use mathlib.Core.List.{List, [], _∷_, _++_, map, flatMap, append-nil, List·Memᴰ, List·Memᴰ·head, List·Memᴰ·tail}
 use mathlib.Core.Bool.{Bool, true, false}
-use Prim.Native.Nat.{ℕ, suc, _<_, _≤_, _+_, _*_, _-_}
+use Prim.Native.Nat.{ℕ, suc, _<_, _≤_, _+_, _-_}
 use native.Mathlib.Omega.{arith}
 use lib.Dec.{T}
 use lib.ListN.{length, length-append, length-map}
@@ -11,7 +11,7 @@ use Rattle.lists.proofs.TestLaws.{keep-append}
 use Rattle.lists.proofs.MemberLaws.{length-upFrom}
 use Rattle.net.specs.Net.{Net}
 use Rattle.net.specs.Route.{endOf, leaves, precedes, leaving}
-use Rattle.net.specs.Search.{candidates, waiting}
+use Rattle.net.specs.Search.{candidates, waiting, left}
 use Rattle.net.proofs.Order.{precedes-irrefl, precedes-trans}
 use Rattle.net.proofs.Candidates.{Candidate, candidate-i}
 
@@ -82,17 +82,15 @@ module _ (net : Net) (s : ℕ) where
       let cs = candidates net s taken in
       omega (arith, ap (λ l. length (keep f l)) (candidates-more taken p), ap length (keep-append f cs (more p)), length-append (keep f cs) (keep f (more p)), length-keep f (more p), length-more p)
 
-  -- ---- a number that falls with each turn, while there are at most `room` labels
+  -- ---- the number falls
 
-  abbrev pub left : ℕ → List (List ℕ) → List ℕ → ℕ
-  left room taken last = (room - length taken) * suc (length (net .arcs)) + length (waiting net s taken last)
-
-  pub left-dropped : (room : ℕ) (taken : List (List ℕ)) (last c : List ℕ) → Candidate net s taken last c → left room taken c < left room taken last
+  pub left-dropped : (room : ℕ) (taken : List (List ℕ)) (last c : List ℕ) → Candidate net s taken last c → left net s room taken c < left net s room taken last
+  unfolding left
   left-dropped room taken last c k = omega (arith, waiting-less taken last c k)
 
-  pub left-taken : (room : ℕ) (taken : List (List ℕ)) (last c : List ℕ) → Candidate net s taken last c → length taken < room → left room (taken ++ (c ∷ [])) c < left room taken last
+  pub left-taken : (room : ℕ) (taken : List (List ℕ)) (last c : List ℕ) → Candidate net s taken last c → length taken < room → left net s room (taken ++ (c ∷ [])) c < left net s room taken last
+  unfolding left
   left-taken room taken last c k h =
-      let a = suc (length (net .arcs)) in
       let n = room - length (taken ++ (c ∷ [])) in
       let e : room - length taken ≡ suc n = omega (arith, length-append taken (c ∷ [])) in
       rw e (omega (arith, waiting-less taken last c k, waiting-more taken c c))

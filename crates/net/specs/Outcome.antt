@@ -37,9 +37,9 @@ summary q refused = record { len = 0; arcs = 0; labels = q .room }
 abbrev pub notBegun : Summary
 notBegun = record { len = 0; arcs = 0; labels = 0 }
 
-unfoldable pub summaries : Query → List Ending → List Summary
+unfoldable pub summaries : Query → ℕ → List Ending → List Summary
 unfolding summary
-summaries q rs = map (summary q) rs ++ replicate (q .k - length rs) notBegun
+summaries q k rs = map (summary q) rs ++ replicate (k - length rs) notBegun
 
 -- The answers, round by round.
 unfoldable pub answers : List Ending → List (List ℕ)
@@ -62,10 +62,10 @@ told i (unanswered n ∷ rs) = record { outcome = 1; number = 0 }
 told i (refused ∷ rs) = record { outcome = 11; number = i }
 
 -- 7: "s or t is not below the node count, or s = t"; 8: "k is outside its limits"; 9: "the threshold is outside its limits"; in this order. 0: none of them.
-unfoldable pub refusal : Query → ℕ
-refusal q =
+unfoldable pub refusal : Query → ℕ → ℕ
+refusal q k =
     cond (not (ltb (q .s) (q .net .nodes) && ltb (q .t) (q .net .nodes) && not (eqb (q .s) (q .t)))) 7
-    (cond (not (leb 1 (q .k) && leb (q .k) mostRoutes)) 8
+    (cond (not (leb 1 k && leb k mostRoutes)) 8
     (cond (not (leb 1 (q .b) && leb (q .b) mostB && ltb (q .a) (q .b))) 9 0))
 
 pub record Reply : Type 0 where
@@ -73,12 +73,12 @@ pub record Reply : Type 0 where
   pub routes : List (List ℕ)
   pub summaries : List Summary
 
--- What a query shows: a refusal, or what its rounds make.
-unfoldable pub replyTo : Query → ℕ → List Ending → Reply
+-- What a query for k routes shows: a refusal, or what its rounds make.
+unfoldable pub replyTo : Query → ℕ → ℕ → List Ending → Reply
 unfolding told answers summaries
-replyTo q zero rs = record { told = told 1 rs; routes = answers rs; summaries = summaries q rs }
-replyTo q (suc n) rs = record { told = record { outcome = suc n; number = 0 }; routes = []; summaries = [] }
+replyTo q k zero rs = record { told = told 1 rs; routes = answers rs; summaries = summaries q k rs }
+replyTo q k (suc n) rs = record { told = record { outcome = suc n; number = 0 }; routes = []; summaries = [] }
 
-unfoldable pub reply : Query → Reply
+unfoldable pub reply : Query → ℕ → Reply
 unfolding refusal rounds replyTo
-reply q = replyTo q (refusal q) (rounds q (q .k) [])
+reply q k = replyTo q k (refusal q k) (rounds q k [])

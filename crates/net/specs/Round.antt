@@ -9,12 +9,11 @@ use Rattle.lists.specs.Tests.{every, any, keep}
 use Rattle.net.specs.Net.{Net}
 use Rattle.net.specs.Route.{endOf, lengthOf, precedes, overlap, within, partials}
 
--- What is asked: routes from s to t, k of them, at the threshold a/b, with room for so many labels.
+-- What is asked: routes from s to t at the threshold a/b, with room for so many labels. How many, k, stands beside it: no round depends on it.
 pub record Query : Type 0 where
   pub net : Net
   pub s : ℕ
   pub t : ℕ
-  pub k : ℕ
   pub a : ℕ
   pub b : ℕ
   pub room : ℕ

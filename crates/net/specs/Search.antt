@@ -3,8 +3,9 @@
 use mathlib.Core.List.{List, [], _∷_, _++_, map, flatMap, head?}
 use mathlib.Core.Option.{Option}
 use mathlib.Core.Bool.{Bool, not, _&&_}
-use Prim.Native.Nat.{ℕ}
+use Prim.Native.Nat.{ℕ, suc, _+_, _-_, _*_}
 use lib.Dec.{eqb}
+use lib.ListN.{length}
 use Rattle.lists.specs.Tests.{any, keep}
 use Rattle.net.specs.Net.{Net}
 use Rattle.net.specs.Route.{endOf, precedes, leaving, inOrder}
@@ -34,3 +35,9 @@ covered q earlier taken c = any (λ r. eqb (endOf (q .net) (q .s) r) (endOf (q .
 unfoldable pub upTo : Query → List (List ℕ) → List ℕ → List (List ℕ)
 unfolding keep precedes lives
 upTo q earlier last = keep (λ p. not (precedes (q .net) last p)) (lives q earlier)
+
+-- A number that falls with each turn, while there are at most `room` labels: a turn leaves fewer waiting, or takes up a chain, which brings at most an arc's
+-- candidate each.
+unfoldable pub left : Net → ℕ → ℕ → List (List ℕ) → List ℕ → ℕ
+unfolding waiting
+left net s room taken last = (room - length taken) * suc (length (net .arcs)) + length (waiting net s taken last)

@@ -1,0 +1,83 @@
+-- Labels made of chains, one after the other: a chain more is a row more, put behind those before it. Each row lies behind the last, so the bytes past the
+-- labels are as they were.
+use mathlib.Core.Path.{_≡_, refl, ap, _∙_}
+use mathlib.Core.List.{List, [], _∷_, _++_}
+use Prim.Native.Nat.{ℕ, suc, _+_, _*_, _≤_, _<_}
+use native.Mathlib.Omega.{arith}
+use lib.ListN.{length, getD, drop, length-map}
+use Rattle.net.specs.Net.{Net}
+use Rattle.net.specs.Route.{endOf, lengthOf}
+use Rattle.net.specs.Labels.{Label, extend, labelFrom, labels}
+use Rattle.net.proofs.Labels.{Closed, labels-more}
+use Rattle.net.proofs.Sorted.{Increasing}
+use Rattle.labels.specs.Field.{labelBytes, Row, putRow}
+use Rattle.labels.specs.Rows.{rowOf, rowsOf, putRows, labelled}
+use Rattle.labels.proofs.StoreLaws.{length-putRow, drop-putRow, emptyRow}
+
+-- ---- rows
+
+pub putRows-more : (l : List ℕ) (i : ℕ) (xs : List Row) (x : Row) → putRows l i (xs ++ (x ∷ [])) ≡ putRow (putRows l i xs) (i + length xs) x
+unfolding putRows
+putRows-more l i [] x = ap (λ n. putRow l n x) (omega arith)
+putRows-more l i (y ∷ xs) x = putRows-more (putRow l i y) (i + 1) xs x ∙ ap (λ n. putRow (putRows (putRow l i y) (i + 1) xs) n x) (omega arith)
+
+pub length-putRows : (l : List ℕ) (i : ℕ) (xs : List Row) → length (putRows l i xs) ≡ length l
+unfolding putRows
+length-putRows l i [] = refl
+length-putRows l i (x ∷ xs) = length-putRows (putRow l i x) (i + 1) xs ∙ length-putRow l i x
+
+pub drop-putRows : (l : List ℕ) (i : ℕ) (xs : List Row) (m : ℕ) → (i + length xs) * labelBytes ≤ m → drop m (putRows l i xs) ≡ drop m l
+unfolding putRows
+drop-putRows l i [] m h = refl
+drop-putRows l i (x ∷ xs) m h = drop-putRows (putRow l i x) (i + 1) xs m (omega arith) ∙ drop-putRow l i x m (omega arith)
+
+pub length-labels : (ps : List (List ℕ)) → length (labels ps) ≡ length ps
+unfolding labels
+length-labels ps = length-map ps (labelFrom ps [])
+
+module _ (net : Net) (s : ℕ) where
+  pub rowsOf-more : (ls : List Label) (ps : List (List ℕ)) (x : Label) (p : List ℕ) → length ls ≡ length ps
+      → rowsOf net s (ls ++ (x ∷ [])) (ps ++ (p ∷ [])) ≡ rowsOf net s ls ps ++ (rowOf net s x p ∷ [])
+  unfolding rowsOf
+  rowsOf-more [] [] x p h = refl
+  rowsOf-more [] (q ∷ ps) x p h = absurd (omega arith)
+  rowsOf-more (y ∷ ls) [] x p h = absurd (omega arith)
+  rowsOf-more (y ∷ ls) (q ∷ ps) x p h = ap (λ l. rowOf net s y q ∷ l) (rowsOf-more ls ps x p (omega arith))
+
+  length-rowsOf : (ls : List Label) (ps : List (List ℕ)) → length ls ≡ length ps → length (rowsOf net s ls ps) ≡ length ps
+  unfolding rowsOf
+  length-rowsOf [] [] h = refl
+  length-rowsOf [] (q ∷ ps) h = absurd (omega arith)
+  length-rowsOf (y ∷ ls) [] h = absurd (omega arith)
+  length-rowsOf (y ∷ ls) (q ∷ ps) h = ap suc (length-rowsOf ls ps (omega arith))
+
+  -- ---- labels of chains
+
+  pub labelled-none : (l : List ℕ) → labelled net s l [] ≡ l
+  unfolding labelled labels rowsOf putRows
+  labelled-none l = refl
+
+  pub labelled-first : (l : List ℕ) → labelled net s l ([] ∷ []) ≡ putRow l 0 (emptyRow s)
+  unfolding labelled labels labelFrom rowsOf rowOf putRows lengthOf endOf
+  labelled-first l = refl
+
+  pub labelled-more : (l : List ℕ) (ps : List (List ℕ)) → Increasing net ps → Closed ps → (i a : ℕ) → i < length ps
+      → labelled net s l (ps ++ ((getD ps i [] ++ (a ∷ [])) ∷ []))
+      ≡ putRow (labelled net s l ps) (length ps)
+      (record { last-arc = a; extends = i; len = lengthOf net (getD ps i [] ++ (a ∷ [])); end = endOf net s (getD ps i [] ++ (a ∷ [])) })
+  unfolding labelled rowOf
+  labelled-more l ps inc closed i a h =
+      let p = getD ps i [] ++ (a ∷ []) in
+      let rows = rowsOf net s (labels ps) ps in
+      let n : 0 + length rows ≡ length ps = omega (arith, length-rowsOf (labels ps) ps (length-labels ps)) in
+      ap (putRows l 0) (ap (λ ls. rowsOf net s ls (ps ++ (p ∷ []))) (labels-more net ps inc closed i a h) ∙ rowsOf-more (labels ps) ps (extend i a) p (length-labels ps))
+      ∙ putRows-more l 0 rows (rowOf net s (extend i a) p) ∙ ap (λ k. putRow (putRows l 0 rows) k (rowOf net s (extend i a) p)) n
+
+  pub length-labelled : (l : List ℕ) (ps : List (List ℕ)) → length (labelled net s l ps) ≡ length l
+  unfolding labelled
+  length-labelled l ps = length-putRows l 0 (rowsOf net s (labels ps) ps)
+
+  pub labelled-past : (l : List ℕ) (ps : List (List ℕ)) → drop (length ps * labelBytes) (labelled net s l ps) ≡ drop (length ps * labelBytes) l
+  unfolding labelled
+  labelled-past l ps =
+      drop-putRows l 0 (rowsOf net s (labels ps) ps) (length ps * labelBytes) (omega (arith, length-rowsOf (labels ps) ps (length-labels ps)))

@@ -1,0 +1,49 @@
+-- The net of a good table. Its arcs are the table's records by number, so what each record is, each arc is; a number past them names `noArc`, whose end
+-- is node 0 and whose length is 1, so ends and lengths are within their limits at every number.
+use mathlib.Core.Path.{_≡_, sym, subst}
+use mathlib.Core.List.{List}
+use mathlib.Core.Logic.{⊎-elim}
+use Prim.Native.Nat.{ℕ, _≤_, _<_}
+use native.Mathlib.Omega.{arith}
+use lib.ListN.{length, List·getD-eq-default}
+use Rattle.lists.proofs.Cases.{order}
+use Rattle.lists.proofs.IndexLaws.{length-tab, getD-tab}
+use Rattle.net.specs.Limits.{mostLength}
+use Rattle.net.specs.Net.{Arc, arc, noArc}
+use Rattle.net.proofs.Valid.{Sound}
+use Rattle.table.specs.Table.{records, arcAt, arcsOf, netOf}
+use Rattle.table.specs.Fault.{tableFault, good}
+use Rattle.table.proofs.FaultLaws.{all-good, good-size}
+
+pub arcs-length : (t : List ℕ) → length (arcsOf t) ≡ records t
+unfolding arcsOf
+arcs-length t = length-tab (records t) (arcAt t)
+
+pub arc-is : (nodes : ℕ) (t : List ℕ) (a : ℕ) → a < records t → arc (netOf nodes t) a ≡ arcAt t a
+unfolding arcsOf
+arc-is nodes t a h = getD-tab (records t) (arcAt t) a noArc h
+
+-- what holds of every record and of `noArc` holds at every number
+at-every : (P : Arc → Type 0) (nodes : ℕ) (t : List ℕ) → P noArc → ((a : ℕ) → a < records t → P (arcAt t a)) → (a : ℕ) → P (arc (netOf nodes t) a)
+at-every P nodes t past each a =
+    ⊎-elim
+    (λ w. subst P (sym (List·getD-eq-default (arcsOf t) noArc {n = a} (omega (arith, arcs-length t)))) past)
+    (λ w. subst P (sym (arc-is nodes t a w)) (each a w))
+    (order (records t) a)
+
+module _ (nodes : ℕ) (t : List ℕ) (ok : tableFault nodes t ≡ good) where
+  pub table-sound : Sound (netOf nodes t)
+  table-sound =
+      record {
+        to-below = at-every (λ x. x .to < nodes) nodes t (good-size nodes t ok .0) (λ a h. all-good nodes t ok a h .end);
+        positive = at-every (λ x. 0 < x .len) nodes t (omega arith) (λ a h. all-good nodes t ok a h .least);
+      }
+
+  pub len-most : (a : ℕ) → arc (netOf nodes t) a .len ≤ mostLength
+  len-most = at-every (λ x. x .len ≤ mostLength) nodes t (omega arith) (λ a h. all-good nodes t ok a h .most)
+
+  pub from-below : (a : ℕ) → arc (netOf nodes t) a .from < nodes
+  from-below = at-every (λ x. x .from < nodes) nodes t (good-size nodes t ok .0) (λ a h. all-good nodes t ok a h .start)
+
+  pub no-loop : (a : ℕ) → a < records t → arc (netOf nodes t) a .from ≡ arc (netOf nodes t) a .to → ⊥
+  no-loop a h = subst (λ x. x .from ≡ x .to → ⊥) (sym (arc-is nodes t a h)) (all-good nodes t ok a h .moves)
