@@ -1,0 +1,5 @@
+pub mod AskLaws
+pub mod EarlierLaws
+pub mod TurnLaws
+pub mod StageLaws
+pub mod RoundLaws

@@ -1,0 +1,96 @@
+-- What a round leaves, from how its search ended: the labels' bytes are those of what is counted, and of the route area only the answer's slot changes.
+use mathlib.Core.Path.{_≡_, refl, sym, ap, subst, _∙_}
+use mathlib.Core.Logic.{_≢_}
+use mathlib.Core.List.{List, [], _∷_, _++_}
+use Prim.Native.Nat.{ℕ, zero, suc, pred, _+_, _-_, _*_, _≤_, _<_}
+use native.Mathlib.Omega.{arith}
+use lib.ListN.{length, take, replicate}
+use Rattle.lists.specs.Tests.{upFrom}
+use Rattle.lists.proofs.LoopLaws.{length-map-upFrom}
+use borrow.Rule.Slice.PartMut.{putMid, midOf}
+use Rattle.words.specs.Part.{patch}
+use Rattle.words.proofs.PartLaws.{back, lent}
+use Rattle.net.specs.Route.{lengthOf}
+use Rattle.net.specs.Round.{Query, counted, Ending, answered, unanswered, refused, ending}
+use Rattle.net.specs.Labels.{held}
+use Rattle.net.proofs.Valid.{Valid}
+use Rattle.labels.specs.Field.{noNumber, lengthAt}
+use Rattle.labels.specs.Chain.{chainAt, chainsIn, labelAt, labelsIn}
+use Rattle.labels.specs.Standing.{Standing}
+use Rattle.labels.specs.Rows.{labelled}
+use Rattle.labels.proofs.RowLaws.{labelled-none}
+use Rattle.round.specs.declared.turn.State.{State}
+use Rattle.round.specs.declared.round.Ended.{Ended}
+use Rattle.round.specs.declared.round.Ended.the-variants.{Answer, NoAnswer, Refused}
+use Rattle.round.specs.Round.{shown, slotOf, areaAfter, Rounded}
+use Rattle.round.specs.Stage.{StageAt, Over, Searched}
+use Rattle.round.proofs.EarlierLaws.{answered-short}
+
+length-labelsIn : (l : List ℕ) (n : ℕ) → length (labelsIn l n) ≡ n
+unfolding labelsIn
+length-labelsIn l n = length-map-upFrom (labelAt l) 0 n
+
+-- any stage but the first three is a refusal
+stage-refused : (k : ℕ) (q : Query) (earlier : List (List ℕ)) (l : List ℕ) (y : State) → k ≢ 0 → k ≢ 1 → k ≢ 2 → StageAt k q earlier l y → Over q earlier l (y .n) refused
+stage-refused zero q earlier l y a b c h = absurd (a refl)
+stage-refused (suc zero) q earlier l y a b c h = absurd (b refl)
+stage-refused (suc (suc zero)) q earlier l y a b c h = absurd (c refl)
+stage-refused (suc (suc (suc k))) q earlier l y a b c h = h
+
+-- in every stage the labels stand
+stage-standing : (k : ℕ) (q : Query) (earlier : List (List ℕ)) (l : List ℕ) (y : State) → StageAt k q earlier l y → Standing (q .net) (q .s) l (y .n)
+stage-standing zero q earlier l y h = h .standing
+stage-standing (suc zero) q earlier l y h = h .1 .standing
+stage-standing (suc (suc zero)) q earlier l y h = h .standing
+stage-standing (suc (suc (suc k))) q earlier l y h = h .standing
+
+pub searched-standing : (q : Query) (earlier : List (List ℕ)) (l l′ : List ℕ) (y : State) → Searched q earlier l l′ y → Standing (q .net) (q .s) l′ (y .n)
+searched-standing q earlier l l′ y h = stage-standing (y .stage) q earlier l′ y (h .stage)
+
+-- what the call that was lent the slot leaves in the area
+pub slot-written : (w r : ℕ) (area p ys : List ℕ) → r * w + w ≤ length area → ys ≡ p ++ replicate (length (midOf (r * w) (r * w + w - r * w) area) - length p) noNumber
+    → putMid (r * w) (r * w + w - r * w) area ys ≡ patch (r * w) (r * w + w) area (slotOf w p)
+unfolding slotOf
+slot-written w r area p ys h e =
+    let n : length (midOf (r * w) (r * w + w - r * w) area) ≡ w = lent (r * w) (r * w + w) area (omega arith) h ∙ omega arith in
+    back (r * w) (r * w + w) area ys (omega arith) ∙ ap (patch (r * w) (r * w + w) area) (e ∙ ap (λ k. p ++ replicate (k - length p) noNumber) n)
+
+module _ (q : Query) (earlier : List (List ℕ)) (w r : ℕ) (area l l′ : List ℕ) (y : State) (h : Searched q earlier l l′ y) where
+  -- over any area that is as the ending says
+  rounded : (e : Ending) (x : Ended) (area′ : List ℕ) → Over q earlier l′ (y .n) e → x ≡ shown q e → area′ ≡ areaAfter w r area e → Rounded q earlier w r area area′ l l′ x
+  unfolding chainsIn upFrom
+  rounded e x area′ o s k =
+      let n : length (held q earlier) ≡ y .n = ap length (sym (o .holds)) ∙ length-labelsIn l′ (y .n) in
+      record {
+        ends = s ∙ ap (shown q) (sym (o .ends));
+        holds = ap (labelsIn l′) n ∙ o .holds;
+        bytes = h .keeps l (sym (labelled-none (q .net) (q .s) l)) ∙ ap (labelled (q .net) (q .s) l) (o .chains);
+        slot = k ∙ ap (areaAfter w r area) (sym (o .ends));
+      }
+
+  pub rounded-none : y .stage ≡ 2 → Rounded q earlier w r area area l l′ (NoAnswer (y .n))
+  unfolding shown areaAfter
+  rounded-none e = rounded (unanswered (y .n)) (NoAnswer (y .n)) area (subst (λ k. StageAt k q earlier l′ y) e (h .stage)) refl refl
+
+  pub rounded-refused : y .stage ≢ 0 → y .stage ≢ 2 → y .stage ≢ 1 → Rounded q earlier w r area area l l′ Refused
+  unfolding shown areaAfter
+  rounded-refused a c b = rounded refused Refused area (stage-refused (y .stage) q earlier l′ y a b c (h .stage)) refl refl
+
+  -- an answer: the last label's chain
+  module _ (at : y .stage ≡ 1) where
+    pub last-label : (y .n ≢ 0) × Over q earlier l′ (y .n) (answered (chainAt l′ (pred (y .n))) (y .n))
+    last-label = subst (λ k. StageAt k q earlier l′ y) at (h .stage)
+
+    module _ (i : ℕ) (is : i ≡ y .n - 1) where
+      before : pred (y .n) ≡ i
+      before = omega arith
+
+      pub last-over : Over q earlier l′ (y .n) (answered (chainAt l′ i) (y .n))
+      last-over = subst (λ j. Over q earlier l′ (y .n) (answered (chainAt l′ j) (y .n))) before (last-label .1)
+
+      pub rounded-answer : (area′ : List ℕ) → area′ ≡ patch (r * w) (r * w + w) area (slotOf w (chainAt l′ i)) → (len arcs : ℕ) → len ≡ lengthAt l′ i → arcs ≡ length (chainAt l′ i)
+          → Rounded q earlier w r area area′ l l′ (Answer len arcs (y .n))
+      unfolding shown areaAfter
+      rounded-answer area′ e len arcs a b =
+          let less : i < y .n = omega (arith, last-label .0) in
+          rounded (answered (chainAt l′ i) (y .n)) (Answer len arcs (y .n)) area′ last-over (cc (a, b, last-over .standing .lengths i less)) e

@@ -1,0 +1,45 @@
+-- An arc of the table has a number below the one that fills a slot's other words, so it stands on the slot's route where it stands on the slot; there it
+-- adds its length, which the table has.
+use mathlib.Core.Path.{sym, _∙_}
+use Prim.Native.Nat.{_≤_}
+use native.Mathlib.Omega.{arith}
+use borrow.Author.Needs.{needs}
+use Rattle.net.specs.Limits.{mostArcs}
+use Rattle.table.specs.Table.{records}
+use Rattle.table.proofs.FaultLaws.{good-size}
+use Rattle.search.proofs.OverlapLaws.{shared-some, shared-none}
+use Rattle.search.proofs.overlap.shared.Statement.{statement}
+use Rattle.search.proofs.overlap.shared.Tie as tie
+
+few : (c : tie.Start) → records (c .args .t .now) ≤ mostArcs
+few c = good-size _ _ (c .pre .0 .table) .3
+
+cast-stands-on : tie.Need-cast-stands-on
+cast-stands-on c = omega (arith, few (c .before .before))
+
+stands-on-requires : tie.Need-stands-on-requires
+stands-on-requires c κs = search needs
+
+length-of-requires : tie.Need-length-of-requires
+length-of-requires c κs = search needs
+
+cast-result : tie.Need-cast-result
+cast-result c = search needs
+
+returns : tie.Need-returns
+returns c =
+    let k = c .before .before in
+    let s = k .before .before .before in
+    c .length-of .ensures
+    ∙ sym (shared-some (s .args .ask .nodes) (s .args .t .now) (s .args .slot .now) (s .args .a) (few s) (s .pre .1) (sym (k .stands-on .ensures) ∙ c .before .if1 .taken))
+
+returns-2 : tie.Need-returns-2
+returns-2 c =
+    let k = c .before in
+    let s = k .before .before .before in
+    sym (shared-none (s .args .ask .nodes) (s .args .t .now) (s .args .slot .now) (s .args .a) (few s) (s .pre .1) (sym (k .stands-on .ensures) ∙ c .if1 .left))
+
+pub shared-spec : {M : Type 1} → statement M
+shared-spec =
+    tie.close
+    (tie.spec cast-stands-on stands-on-requires length-of-requires cast-result returns returns-2)
