@@ -78,11 +78,11 @@ module _ (q : Query) (earlier : List (List ℕ)) (v : Valid q) (few : length (q 
     long : length (slotOf (q .net .nodes - 1) p) ≡ q .net .nodes - 1
     long = length-slotOf (q .net .nodes - 1) p answered-short
 
-    here : routeIn (slot (q .net .nodes - 1) r (areaAfter (q .net .nodes - 1) r area (answered p n))) ≡ p
+    pub here : routeIn (slot (q .net .nodes - 1) r (areaAfter (q .net .nodes - 1) r area (answered p n))) ≡ p
     unfolding areaAfter
     here = ap routeIn (slot-same (q .net .nodes - 1) r area (slotOf (q .net .nodes - 1) p) slots long) ∙ slot-route (q .net .nodes - 1) p answered-arcs
 
-    there : (j : ℕ) → j < r → routeIn (slot (q .net .nodes - 1) j (areaAfter (q .net .nodes - 1) r area (answered p n))) ≡ routeIn (slot (q .net .nodes - 1) j area)
+    pub there : (j : ℕ) → j < r → routeIn (slot (q .net .nodes - 1) j (areaAfter (q .net .nodes - 1) r area (answered p n))) ≡ routeIn (slot (q .net .nodes - 1) j area)
     unfolding areaAfter
     there j h = ap routeIn (slot-other (q .net .nodes - 1) r j area (slotOf (q .net .nodes - 1) p) slots long (λ k. omega arith))
 

@@ -1,0 +1,44 @@
+// The summaries of a query: by value, and written to a lent slice of records.
+ghost use mathlib.Core.Path.{_≡_};
+ghost use Prim.Native.Nat.{_<_, _≤_};
+ghost use lib.ListN.{length};
+ghost use Rattle.net.specs.Limits.{mostRoutes};
+ghost use Rattle.summary.specs.Sums.{recordAt, written};
+
+// Length, number of arcs and label count of one round.
+pub struct Summary {
+    pub length: u64,
+    pub arcs: u64,
+    pub labels: u64,
+}
+
+// The summaries of all rounds by value: a row of numbers for each field.
+pub struct Sums {
+    pub length: [u64; 8],
+    pub arcs: [u64; 8],
+    pub labels: [u64; 8],
+}
+
+// The summary of round i, from 0.
+pub fn at(t: Sums, i: usize) -> Summary
+    requires { ⌜ i < mostRoutes ⌝ }
+    ensures { λ r. ⌜ r ≡ recordAt t i ⌝ }
+{
+    Summary {
+        length: t.length[i],
+        arcs: t.arcs[i],
+        labels: t.labels[i],
+    }
+}
+
+// The first n records are those of t; the others stay.
+pub fn write(s: &mut [Summary], t: Sums, n: usize)
+    requires { ⌜ (n ≤ mostRoutes) × (n ≤ length (now s)) ⌝ }
+    ensures { λ _. ⌜ now (s .exit) ≡ written t n (now (s .entry)) ⌝ }
+{
+    let mut i = 0;
+    while i < n {
+        s[i] = at(t, i);
+        i += 1;
+    }
+}
