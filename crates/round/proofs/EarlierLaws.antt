@@ -1,24 +1,23 @@
 -- An answer in its slot becomes the next earlier route: the slot read back is the answer, since no arc is numbered 4,294,967,295, and every other slot is as it
 -- was.
 use mathlib.Core.Path.{_≡_, refl, sym, ap, ap₂, subst, _∙_}
-use mathlib.Core.Logic.{_⊎_, inl, inr, ⊎-elim, _≢_}
-use mathlib.Core.Bool.{Bool, true, false, not}
-use mathlib.Core.List.{List, [], _∷_, _++_, map, append-nil, List·Memᴰ, List·Memᴰ·head, List·Memᴰ·tail}
+use mathlib.Core.Logic.{_⊎_, inl, inr}
+use mathlib.Core.Bool.{Bool, false, not}
+use mathlib.Core.List.{List, [], _∷_, _++_, append-nil, List·Memᴰ, List·Memᴰ·head, List·Memᴰ·tail}
 use Prim.Native.Nat.{ℕ, zero, suc, _+_, _-_, _*_, _≤_, _<_}
-use native.Mathlib.Nat.{mul-le-mul-right}
 use native.Mathlib.Omega.{arith}
 use lib.Dec.{T, eqb}
 use lib.ListN.{length, getD, set, replicate, length-append, length-replicate, length-set}
 use lib.Seq.{getD-set-same, getD-set-other}
 use borrow.Author.Tests.{ne-eqb}
-use Rattle.lists.specs.Tests.{keep, consIf, upFrom}
+use Rattle.lists.specs.Tests.{keep}
 use Rattle.lists.proofs.Cases.{order}
-use Rattle.lists.proofs.TestLaws.{keep-append}
+use Rattle.lists.proofs.TestLaws.{and-l, keep-append}
 use Rattle.lists.proofs.LoopLaws.{map-upFrom-more, map-upFrom-cong}
-use Rattle.words.specs.Part.{patch, slot}
+use Rattle.words.specs.Part.{slot}
 use Rattle.words.proofs.PartLaws.{slot-same, slot-other, length-patch}
 use Rattle.net.specs.Net.{Net, arc}
-use Rattle.net.specs.Route.{chain, partial, leaves, lengthOf}
+use Rattle.net.specs.Route.{chain, partial, lengthOf}
 use Rattle.net.specs.Round.{Query, answered, ending}
 use Rattle.net.specs.Limits.{mostNodes, mostLength, mostRoutes}
 use Rattle.net.proofs.Valid.{Valid}
@@ -26,7 +25,6 @@ use Rattle.net.proofs.Chains.{leaves-e, chain-cons}
 use Rattle.net.proofs.Listing.{partial-short}
 use Rattle.net.proofs.Lengths.{lengthOf-most}
 use Rattle.net.proofs.Ends.{answered-partial}
-use Rattle.lists.proofs.TestLaws.{and-l}
 use Rattle.labels.specs.Field.{noNumber}
 use Rattle.search.specs.Earlier.{routeIn, earlierIn, Earlier}
 use Rattle.round.specs.Round.{slotOf, areaAfter}
@@ -72,9 +70,6 @@ module _ (q : Query) (earlier : List (List ℕ)) (v : Valid q) (few : length (q 
   answered-short = omega (arith, partial-short (q .net) (q .s) (v .s-below) (v .sound .to-below) p (answered-partial q earlier v p n e), v .s-below)
 
   module _ (r : ℕ) (area : List ℕ) (slots : r * (q .net .nodes - 1) + (q .net .nodes - 1) ≤ length area) where
-    w : ℕ
-    w = q .net .nodes - 1
-
     long : length (slotOf (q .net .nodes - 1) p) ≡ q .net .nodes - 1
     long = length-slotOf (q .net .nodes - 1) p answered-short
 

@@ -1,19 +1,18 @@
--- What a round leaves, from how its search ended: the labels' bytes are those of what is counted, and of the route area only the answer's slot changes.
+-- What a round leaves, from how its search ended: the labels' bytes are those of what is counted, and of the route area only the answer's slot changes. The
+-- search says it of its state's n labels, and as many labels are held; the answer is the chain of the last of them.
 use mathlib.Core.Path.{_≡_, refl, sym, ap, subst, _∙_}
 use mathlib.Core.Logic.{_≢_}
-use mathlib.Core.List.{List, [], _∷_, _++_}
+use mathlib.Core.List.{List, _++_}
 use Prim.Native.Nat.{ℕ, zero, suc, pred, _+_, _-_, _*_, _≤_, _<_}
 use native.Mathlib.Omega.{arith}
-use lib.ListN.{length, take, replicate}
+use lib.ListN.{length, replicate}
 use Rattle.lists.specs.Tests.{upFrom}
 use Rattle.lists.proofs.LoopLaws.{length-map-upFrom}
 use borrow.Rule.Slice.PartMut.{putMid, midOf}
 use Rattle.words.specs.Part.{patch}
 use Rattle.words.proofs.PartLaws.{back, lent}
-use Rattle.net.specs.Route.{lengthOf}
-use Rattle.net.specs.Round.{Query, counted, Ending, answered, unanswered, refused, ending}
+use Rattle.net.specs.Round.{Query, Ending, answered, unanswered, refused}
 use Rattle.net.specs.Labels.{held}
-use Rattle.net.proofs.Valid.{Valid}
 use Rattle.labels.specs.Field.{noNumber, lengthAt}
 use Rattle.labels.specs.Chain.{chainAt, chainsIn, labelAt, labelsIn}
 use Rattle.labels.specs.Standing.{Standing}
@@ -24,7 +23,6 @@ use Rattle.round.specs.declared.round.Ended.{Ended}
 use Rattle.round.specs.declared.round.Ended.the-variants.{Answer, NoAnswer, Refused}
 use Rattle.round.specs.Round.{shown, slotOf, areaAfter, Rounded}
 use Rattle.round.specs.Stage.{StageAt, Over, Searched}
-use Rattle.round.proofs.EarlierLaws.{answered-short}
 
 length-labelsIn : (l : List ℕ) (n : ℕ) → length (labelsIn l n) ≡ n
 unfolding labelsIn

@@ -1,32 +1,29 @@
 -- A turn, over lists. The labels' chains are the live partial routes not after `last`; the theory's step says what the first candidate does to them, and the
 -- store of a label adds its chain. Nothing here reads code.
 use mathlib.Core.Path.{_≡_, refl, sym, ap, subst, _∙_}
-use mathlib.Core.Logic.{_⊎_, inl, inr, ⊎-elim, _≢_}
-use mathlib.Core.Bool.{Bool, true, false, cond, not}
+use mathlib.Core.Logic.{_⊎_, inl, inr, _≢_}
+use mathlib.Core.Bool.{true, false, not}
 use mathlib.Core.List.{List, [], _∷_, _++_, List·Memᴰ, List·Memᴰ·head, List·Memᴰ·append-cases, List·Memᴰ·eq-of-singleton, List·Memᴰ·not-nil, Memᴰ·append-right}
-use mathlib.Core.Option.{Option, none, some}
-use Prim.Native.Nat.{ℕ, zero, suc, pred, _+_, _-_, _*_, _^_, _≤_, _<_}
+use mathlib.Core.Option.{none, some}
+use Prim.Native.Nat.{ℕ, pred, _+_, _*_, _^_, _≤_, _<_}
 use native.Mathlib.Omega.{arith}
-use native.Mathlib.Nat.{mul-le-mul-right}
-use lib.Dec.{T, eqb}
+use lib.Dec.{T}
 use lib.ListN.{length, getD, take, length-append}
 use lib.Seq.{getD-at}
 use Rattle.lists.specs.Tests.{upFrom}
-use borrow.Author.Tests.{eq-eqb, ne-eqb}
 use Rattle.net.specs.Net.{Net, arc}
 use Rattle.net.specs.Route.{endOf, lengthOf, partial}
-use Rattle.net.specs.Round.{Query, withinAll, counted, lives, Ending, answered, unanswered, refused, ending}
-use Rattle.net.specs.Labels.{extend, labels, held}
+use Rattle.net.specs.Round.{Query, withinAll, counted, Ending, answered, unanswered, refused, ending}
+use Rattle.net.specs.Labels.{extend, labels}
 use Rattle.net.specs.Search.{next, covered, upTo, left}
 use Rattle.net.specs.Limits.{mostNodes, mostLength, mostLabels}
 use Rattle.net.proofs.Valid.{Valid}
-use Rattle.net.proofs.Chains.{endOf-more}
 use Rattle.net.proofs.Sorted.{Increasing}
 use Rattle.net.proofs.Listing.{partial-short, end-below}
 use Rattle.net.proofs.Lengths.{lengthOf-most}
 use Rattle.net.proofs.Candidates.{next-some}
 use Rattle.net.proofs.Step.{upTo-e, upTo-increasing, step-start, step-none, step-over, step-covered, step-taken}
-use Rattle.net.proofs.Ends.{Short, ends-found, ends-refused, ends-none, ends-held}
+use Rattle.net.proofs.Ends.{ends-found, ends-refused, ends-none, ends-held}
 use Rattle.net.proofs.Turns.{left-dropped, left-taken}
 use Rattle.net.proofs.Labels.{Closed, labels-more, upTo-closed}
 use Rattle.labels.specs.Field.{labelBytes, noNumber, Row, putRow}
@@ -37,26 +34,9 @@ use Rattle.labels.proofs.StoreLaws.{Fits, emptyRow, last-arc-same, length-putRo
 use Rattle.labels.proofs.RowLaws.{labelled-first, labelled-more, labelled-none}
 use Rattle.search.specs.Ask.{candidateIn, lastIn, Points}
 use Rattle.search.specs.declared.candidate.Candidate.{Candidate}
+use Rattle.search.proofs.CandidateLaws.{candidate-none, candidate-some, last-none, last-some}
 use Rattle.round.specs.declared.turn.State.{State}
 use Rattle.round.specs.Stage.{lastOf, Going, Over, leftIn, Keeps, Turned, Searched}
-
--- ---- candidates by label and arc
-
-pub last-some : (l : List ℕ) (c : Candidate) → c .arc ≢ noNumber → lastIn l c ≡ chainAt l (c .label) ++ (c .arc ∷ [])
-unfolding lastIn
-last-some l c h = rw (ne-eqb (c .arc) noNumber h)
-
-pub last-none : (l : List ℕ) (c : Candidate) → c .arc ≡ noNumber → lastIn l c ≡ []
-unfolding lastIn
-last-none l c h = rw (eq-eqb (c .arc) noNumber h)
-
-pub candidate-some : (l : List ℕ) (c : Candidate) → c .arc ≢ noNumber → candidateIn l c ≡ some (chainAt l (c .label) ++ (c .arc ∷ []))
-unfolding candidateIn
-candidate-some l c h = rw (ne-eqb (c .arc) noNumber h)
-
-pub candidate-none : (l : List ℕ) (c : Candidate) → c .arc ≡ noNumber → candidateIn l c ≡ none
-unfolding candidateIn
-candidate-none l c h = rw (eq-eqb (c .arc) noNumber h)
 
 -- the row of the candidate's label
 abbrev pub rowFor : Query → List ℕ → Candidate → Row

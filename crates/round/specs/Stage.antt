@@ -4,7 +4,6 @@ use mathlib.Core.List.{List, List·Memᴰ}
 use mathlib.Core.Logic.{_≢_}
 use Prim.Native.Nat.{ℕ, zero, suc, pred, _+_, _-_, _<_, _≤_}
 use lib.ListN.{length, take}
-use Rattle.net.specs.Net.{Net}
 use Rattle.net.specs.Route.{endOf}
 use Rattle.net.specs.Round.{Query, counted, Ending, answered, unanswered, refused, ending}
 use Rattle.net.specs.Labels.{held}

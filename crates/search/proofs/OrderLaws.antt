@@ -86,38 +86,30 @@ module _ (out ys p : List ℕ) (v a k : ℕ) (n : k ≡ length p) (room : k < le
       let front : take k written ≡ p = ap (λ j. take j written) (sym z) ∙ ap (take (k - 0)) (back 0 k out ys zero-le) ∙ part ∙ whole in
       ap (λ j. take j (set written k a)) (add-one k) ∙ take-suc-set written k a (omega (arith, length-written)) ∙ ap (λ l. l ++ (a ∷ [])) front
 
--- ---- candidates compared, from the lengths l and m of their chains and arcs
+-- ---- two chains compared
 
--- as the label and the table have them
+-- a candidate's length, as the label and the table have it
 pub candidate-sum : (nodes : ℕ) (t : List ℕ) {s : ℕ} {b : List ℕ} {n : ℕ} (st : Standing (netOf nodes t) s b n) (i a x y : ℕ)
     → i < n → a < records t → x ≡ lengthAt b i → y ≡ lenAt t a
-    → x + y ≡ lengthOf (netOf nodes t) (chainAt b i) + arc (netOf nodes t) a .len
-candidate-sum nodes t st i a x y h k e f = omega (arith, st .lengths i h, ap (λ r. r .len) (arc-is nodes t a k))
+    → x + y ≡ lengthOf (netOf nodes t) (chainAt b i ++ (a ∷ []))
+unfolding lengthOf
+candidate-sum nodes t {s} {b} st i a x y h k e f =
+    omega (arith, st .lengths i h, lengthOf-append (netOf nodes t) (chainAt b i) (a ∷ []), ap (λ r. r .len) (arc-is nodes t a k))
 
-module _ (net : Net) (p q : List ℕ) (a c l m : ℕ) (el : l ≡ lengthOf net p + arc net a .len) (em : m ≡ lengthOf net q + arc net c .len) where
-  left : l ≡ lengthOf net (p ++ (a ∷ []))
-  unfolding lengthOf
-  left = omega (arith, lengthOf-append net p (a ∷ []))
-
-  right : m ≡ lengthOf net (q ++ (c ∷ []))
-  unfolding lengthOf
-  right = omega (arith, lengthOf-append net q (c ∷ []))
-
-  abbrev numbers : Bool
-  numbers = numbersFirst (p ++ (a ∷ [])) (q ++ (c ∷ []))
-
-  precedes-is : precedes net (p ++ (a ∷ [])) (q ++ (c ∷ [])) ≡ lex l m numbers
+-- from the lengths l and m of the chains
+module _ (net : Net) (p q : List ℕ) (l m : ℕ) (el : l ≡ lengthOf net p) (em : m ≡ lengthOf net q) where
+  precedes-is : precedes net p q ≡ lex l m (numbersFirst p q)
   unfolding precedes
-  precedes-is = rw (← left, ← right)
+  precedes-is = rw (← el, ← em)
 
-  pub precedes-shorter : l < m → precedes net (p ++ (a ∷ [])) (q ++ (c ∷ [])) ≡ true
-  precedes-shorter h = precedes-is ∙ lex-less l m numbers h
+  pub precedes-shorter : l < m → precedes net p q ≡ true
+  precedes-shorter h = precedes-is ∙ lex-less l m (numbersFirst p q) h
 
-  pub precedes-longer : m < l → precedes net (p ++ (a ∷ [])) (q ++ (c ∷ [])) ≡ false
-  precedes-longer h = precedes-is ∙ lex-more l m numbers h
+  pub precedes-longer : m < l → precedes net p q ≡ false
+  precedes-longer h = precedes-is ∙ lex-more l m (numbersFirst p q) h
 
-  pub precedes-even : m ≤ l → l ≤ m → precedes net (p ++ (a ∷ [])) (q ++ (c ∷ [])) ≡ numbersFirst (p ++ (a ∷ [])) (q ++ (c ∷ []))
-  precedes-even h k = precedes-is ∙ lex-even l m numbers k h
+  pub precedes-even : m ≤ l → l ≤ m → precedes net p q ≡ numbersFirst p q
+  precedes-even h k = precedes-is ∙ lex-even l m (numbersFirst p q) k h
 
 -- the empty chain precedes a candidate, whose last arc has a length
 pub empty-precedes : (net : Net) (p : List ℕ) (a : ℕ) → 0 < arc net a .len → precedes net [] (p ++ (a ∷ [])) ≡ true

@@ -1,6 +1,8 @@
+-- The search leaves one of three stages. At none and at refused the area stays as it was. At an answer the last label's chain is it, and has at most nodes - 1
+-- arcs; so it fits the lent slot, which comes back with the chain and its filling at its place in the area. The laws `rounded-..` say what each way leaves.
 use native.Mathlib.Omega.{arith}
 use borrow.Author.Needs.{needs}
-use mathlib.Core.Path.{_≡_, refl, _∙_}
+use mathlib.Core.Path.{_≡_, refl}
 use mathlib.Core.List.{List}
 use mathlib.Core.Logic.{_≢_}
 use Prim.Native.Nat.{ℕ, _-_, _+_, _*_, _<_, _≤_}
@@ -20,12 +22,6 @@ use Rattle.round.proofs.EarlierLaws.{answered-short}
 use Rattle.round.proofs.RoundLaws.{searched-standing, slot-written, rounded-none, rounded-refused, last-label, last-over, rounded-answer}
 use Rattle.round.proofs.round.round.Statement.{statement}
 use Rattle.round.proofs.round.round.Tie as tie
-use Rattle.round.proofs.round.round.Reads as reads
-use Rattle.round.proofs.round.round.Lts as lts
-use Rattle.labels.proofs.chain.arcs.Reads as arcs-reads
-use Rattle.labels.proofs.chain.write.Reads as write-reads
-use Rattle.labels.proofs.field.length.Reads as length-reads
-use Rattle.round.proofs.turn.search.Reads as search-reads
 
 abbrev start : tie.After-search → tie.Start
 start a = a .before .before .before .before .before .before .before .before

@@ -3,11 +3,11 @@
 use native.Mathlib.Omega.{arith}
 use borrow.Author.Needs.{needs}
 use borrow.Author.Tests.{not-true, not-false}
-use mathlib.Core.Path.{_≡_, sym, ap, subst, _∙_}
+use mathlib.Core.Path.{_≡_, sym, _∙_}
 use mathlib.Core.List.{List, [], _∷_, _++_}
 use mathlib.Core.Logic.{_≢_}
 use mathlib.Core.Bool.{true, false}
-use Prim.Native.Nat.{ℕ, _<_, _≤_}
+use Prim.Native.Nat.{ℕ, _<_}
 use lib.ListN.{length}
 use Rattle.net.specs.Route.{endOf}
 use Rattle.net.specs.Round.{Query, withinAll}
@@ -21,18 +21,11 @@ use Rattle.labels.specs.Chain.{chainAt, chainsIn}
 use Rattle.labels.specs.Field.{noNumber}
 use Rattle.search.specs.Ask.{netFor, queryFor}
 use Rattle.search.specs.Earlier.{earlierIn}
-use Rattle.search.specs.declared.candidate.Candidate.{Candidate}
-use Rattle.round.proofs.AskLaws.{accepted-valid, candidate-end}
+use Rattle.search.proofs.CoverLaws.{end-is}
+use Rattle.round.proofs.AskLaws.{accepted-valid}
 use Rattle.round.proofs.TurnLaws.{turned-none, turned-over, turned-covered, turned-refused, turned-answer, turned-taken}
 use Rattle.round.proofs.turn.turn.Statement.{statement}
 use Rattle.round.proofs.turn.turn.Tie as tie
-use Rattle.round.proofs.turn.turn.Reads as reads
-use Rattle.round.proofs.turn.turn.Lts as lts
-use Rattle.round.proofs.turn.take_up.Reads as take-up-reads
-use Rattle.search.proofs.candidate.next.Reads as next-reads
-use Rattle.search.proofs.test.covered.Reads as covered-reads
-use Rattle.search.proofs.test.within.Reads as within-reads
-use Rattle.table.proofs.arc.to_of.Reads as to-of-reads
 
 -- ---- at the place after `next`
 
@@ -81,12 +74,12 @@ few-arcs e =
     let s = start (after-next e) in
     omega (arith, arcs-length (s .args .t .now), good-size (s .args .ask .nodes) (s .args .t .now) (s .pre .0 .table) .3)
 
-end-is : (e : tie.Else3) → toAt (start (after-next e) .args .t .now) (after-next e .next .result .arc) ≡ endOf (netFor (start (after-next e) .args .ask) (start (after-next e) .args .t .now)) (start (after-next e) .args .ask .s) (chain e)
+chain-end : (e : tie.Else3) → toAt (start (after-next e) .args .t .now) (after-next e .next .result .arc) ≡ endOf (netFor (start (after-next e) .args .ask) (start (after-next e) .args .t .now)) (start (after-next e) .args .ask .s) (chain e)
 unfolding chain
-end-is e =
+chain-end e =
     let a = after-next e in
     let s = start a in
-    candidate-end (s .args .ask .nodes) (s .args .ask .s) (s .args .t .now) (s .args .b .now) (s .args .x .n) (a .next .result .label) (a .next .result .arc) (s .pre .4 .standing) (label-below a (real e)) (record-below a (real e))
+    end-is (s .args .ask .nodes) (s .args .t .now) (s .args .ask .s) (chainAt (s .args .b .now) (a .next .result .label)) (a .next .result .arc) (record-below a (real e))
 
 -- ---- the needs
 
@@ -174,7 +167,7 @@ returns-5 c =
     let room = c .before .before .before .before .before .before .if4 .left in
     turned-answer (query a) (earlier a) (valid a) (s .args .b .now) (s .args .x) (s .pre .4) (s .pre .3) (a .next .result) (a .next .ensures .1) (a .next .ensures .0) (real e) (inside e) (free e)
     room (omega arith) (omega (arith, s .pre .2)) (good-size (s .args .ask .nodes) (s .args .t .now) (s .pre .0 .table) .1) (few-arcs e) (len-most (s .args .ask .nodes) (s .args .t .now) (s .pre .0 .table)) (arc-below a (real e)) _
-    (c .before .before .before .before .take-up .ensures) (sym (end-is e) ∙ sym (c .before .to-of .ensures) ∙ c .if5 .taken)
+    (c .before .before .before .before .take-up .ensures) (sym (chain-end e) ∙ sym (c .before .to-of .ensures) ∙ c .if5 .taken)
 
 add-t24 : tie.Need-add-t24
 add-t24 c =
@@ -193,7 +186,7 @@ returns-6 c =
     let room = c .before .before .before .before .before .before .if4 .left in
     turned-taken (query a) (earlier a) (valid a) (s .args .b .now) (s .args .x) (s .pre .4) (s .pre .3) (a .next .result) (a .next .ensures .1) (a .next .ensures .0) (real e) (inside e) (free e)
     room (omega arith) (omega (arith, s .pre .2)) (good-size (s .args .ask .nodes) (s .args .t .now) (s .pre .0 .table) .1) (few-arcs e) (len-most (s .args .ask .nodes) (s .args .t .now) (s .pre .0 .table)) (arc-below a (real e)) _
-    (c .before .before .before .before .take-up .ensures) (λ z. c .if5 .left (c .before .to-of .ensures ∙ end-is e ∙ z))
+    (c .before .before .before .before .take-up .ensures) (λ z. c .if5 .left (c .before .to-of .ensures ∙ chain-end e ∙ z))
 
 pub turn-spec : {M : Type 1} → statement M
 turn-spec =

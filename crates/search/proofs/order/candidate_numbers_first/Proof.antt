@@ -1,4 +1,5 @@
--- Both candidates are written into arrays that have the room, each in as many words as it has arcs; those first words are compared.
+-- Both candidates are written into arrays, each in as many words as it has arcs, and those first words are compared. The arrays have the room, since the chain
+-- of a label has fewer arcs than a table may have nodes.
 use native.Mathlib.Nat.{sub-zero}
 use borrow.Author.Needs.{needs}
 use Rattle.search.proofs.order.candidate_numbers_first.Statement.{statement}

@@ -1,4 +1,5 @@
--- The loop's invariant: what the two slices have from place i on decides as the whole does. A turn compares one place of each.
+-- The loop's invariant: what the two slices have from place i on decides as the whole does. A turn compares one place of each, and where p has ended, or the
+-- numbers differ, it is decided there. Where q has ended p does not come first.
 use mathlib.Core.Path.{_≡_, refl, sym, _∙_}
 use Prim.Native.Nat.{_-_, _≤_}
 use native.Mathlib.Omega.{arith}

@@ -1,9 +1,11 @@
--- The lengths of both candidates are their labels' lengths and their arcs', which fit 64 bits. They are compared first, and at equal length the numbers.
+-- A candidate's length is its label's length and its arc's, and the sum fits 64 bits, since a label keeps its length within the limit. The lengths of both are
+-- compared first, and at equal length their arc numbers.
 use mathlib.Core.Path.{_≡_, sym, _∙_}
+use mathlib.Core.List.{[], _∷_, _++_}
 use Prim.Native.Nat.{ℕ, _+_}
 use native.Mathlib.Omega.{arith}
 use borrow.Author.Needs.{needs}
-use Rattle.net.specs.Net.{Net, arc}
+use Rattle.net.specs.Net.{Net}
 use Rattle.net.specs.Route.{lengthOf}
 use Rattle.table.proofs.FaultLaws.{good-size}
 use Rattle.labels.specs.Chain.{chainAt}
@@ -19,7 +21,7 @@ abbrev net : tie.Start → Net
 net s = netFor (s .args .ask) (s .args .t .now)
 
 abbrev lengths : tie.Start → ℕ → ℕ → ℕ
-lengths s i a = lengthOf (net s) (chainAt (s .args .b .now) i) + arc (net s) a .len
+lengths s i a = lengthOf (net s) (chainAt (s .args .b .now) i ++ (a ∷ []))
 
 -- the two sums
 left : (c : tie.After-length-of2) → c .before .before .before .length .result + c .before .before .length-of .result ≡ lengths (start c) (start c .args .i) (start c .args .a)
@@ -62,12 +64,12 @@ add-m c = omega (arith, start c .pre .1 .most (start c .args .j) (start c .pre .
 returns : tie.Need-returns
 returns c =
     let d = c .before in
-    sym (precedes-shorter _ _ _ _ _ _ _ (left d) (right d) (c .if1 .taken))
+    sym (precedes-shorter _ _ _ _ _ (left d) (right d) (c .if1 .taken))
 
 returns-2 : tie.Need-returns-2
 returns-2 c =
     let d = c .before .before in
-    sym (precedes-longer _ _ _ _ _ _ _ (left d) (right d) (c .if2 .taken))
+    sym (precedes-longer _ _ _ _ _ (left d) (right d) (c .if2 .taken))
 
 cast-candidate-numbers-first : tie.Need-cast-candidate-numbers-first
 cast-candidate-numbers-first c =
@@ -87,7 +89,7 @@ candidate-numbers-first-requires c κs =
 returns-3 : tie.Need-returns-3
 returns-3 c =
     let d = c .before .before .before in
-    c .candidate-numbers-first .ensures ∙ sym (precedes-even _ _ _ _ _ _ _ (left d) (right d) (omega arith) (omega arith))
+    c .candidate-numbers-first .ensures ∙ sym (precedes-even _ _ _ _ _ (left d) (right d) (omega arith) (omega arith))
 
 pub precedes-spec : {M : Type 1} → statement M
 precedes-spec =

@@ -1,4 +1,5 @@
--- The overlap of the chain and that of the arc add up, to no more than the limit of lengths and one arc's length.
+-- The overlap of a chain with one arc more is the chain's and that arc's. Their sum fits 64 bits: an overlap is no more than the length, and a label keeps that
+-- within the limit.
 use mathlib.Core.List.{[], _∷_}
 use native.Mathlib.Omega.{arith}
 use borrow.Author.Needs.{needs}

@@ -1,4 +1,5 @@
--- The words are looked at in order: whether the arc stands among the words from i on tells whether it stands on the slot.
+-- The words are looked at in order. The loop's invariant: whether the arc stands among the words from i on tells whether it stands on the slot; past the last
+-- word it stands among none.
 use mathlib.Core.Path.{_≡_, refl}
 use Prim.Native.Nat.{_≤_, _-_}
 use native.Mathlib.Omega.{arith}
