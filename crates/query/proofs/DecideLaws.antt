@@ -18,7 +18,7 @@ use Rattle.table.specs.Fault.{tableFault, good}
 use Rattle.search.specs.Ask.{Accepted, roomIn}
 use Rattle.summary.specs.Sums.{written}
 use Rattle.query.specs.Area.{areaWith}
-use Rattle.query.specs.Query.{Input, queryOf, width, tooSmall, refused, reaches, roundsOf, tells, tellsDue, labelsDue, areaDue, sumsDue, asRecord, Finished, Cored}
+use Rattle.query.specs.Query.{Input, queryOf, width, tooSmall, refusedOf, reaches, roundsOf, tells, tellsDue, labelsDue, areaDue, sumsDue, asRecord, Finished, Cored}
 use Rattle.query.specs.declared.Outcome.{Outcome}
 use Rattle.query.specs.declared.Got.{Got}
 
@@ -94,29 +94,29 @@ large i e =
 -- ---- what decides
 
 -- the table, where it is faulty
-refused-table : (i : Input) (x : Told) → tableFault (i .ask .nodes) (i .table) ≡ x → eqb (x .outcome) 0 ≡ false → refused i ≡ x
-unfolding refused
+refused-table : (i : Input) (x : Told) → tableFault (i .ask .nodes) (i .table) ≡ x → eqb (x .outcome) 0 ≡ false → refusedOf i ≡ x
+unfolding refusedOf
 refused-table i x is some = rw is (rw some)
 
 module _ (i : Input) (ok : tableFault (i .ask .nodes) (i .table) ≡ good) where
-  pub refused-number : (n : ℕ) → refusal (queryOf i) (i .k) ≡ n → eqb n 0 ≡ false → refused i ≡ record { outcome = n; number = 0 }
-  unfolding refused
+  pub refused-number : (n : ℕ) → refusal (queryOf i) (i .k) ≡ n → eqb n 0 ≡ false → refusedOf i ≡ record { outcome = n; number = 0 }
+  unfolding refusedOf
   refused-number n e some = rw (ok, e, some)
 
-  pub refused-room : refusal (queryOf i) (i .k) ≡ 0 → (b : Bool) → tooSmall i ≡ b → refused i ≡ cond b (record { outcome = 10; number = 0 }) good
-  unfolding refused
+  pub refused-room : refusal (queryOf i) (i .k) ≡ 0 → (b : Bool) → tooSmall i ≡ b → refusedOf i ≡ cond b (record { outcome = 10; number = 0 }) good
+  unfolding refusedOf
   refused-room e b s = rw (ok, e, s)
 
 -- ---- what is due
 
 -- a refusal: nothing is written
-pub cored-refused : (i : Input) (g : Got) (x : Outcome) → (g .outcome ≡ x) × (g .n ≡ 0) → refused i ≡ tells x → eqb (tells x .outcome) 0 ≡ false
+pub cored-refused : (i : Input) (g : Got) (x : Outcome) → (g .outcome ≡ x) × (g .n ≡ 0) → refusedOf i ≡ tells x → eqb (tells x .outcome) 0 ≡ false
     → Cored i g (i .labels) (i .area)
 unfolding reaches tellsDue labelsDue areaDue sumsDue
 cored-refused i g x says is some =
     let out : reaches i ≡ false = ap (λ y. eqb (y .outcome) 0) is ∙ some in
     record {
-      outcome = ap tells (says .0) ∙ sym is ∙ sym (ap (λ b. cond b (told 1 (roundsOf i)) (refused i)) out);
+      outcome = ap tells (says .0) ∙ sym is ∙ sym (ap (λ b. cond b (told 1 (roundsOf i)) (refusedOf i)) out);
       labels = sym (ap (λ b. cond b (replicate (length (i .labels)) 0) (i .labels)) out);
       area = sym (ap (λ b. cond b (areaWith (width i) (i .k) (i .area) (answers (roundsOf i))) (i .area)) out);
       few = omega (arith, says .1);
@@ -130,13 +130,13 @@ pub cored-table : (i : Input) (g : Got) (x : Outcome) → (g .outcome ≡ x) × 
     → Cored i g (i .labels) (i .area)
 cored-table i g x says is some = cored-refused i g x says (refused-table i (tells x) is some) some
 
-pub cored-reached : (i : Input) (g : Got) (labels′ area′ : List ℕ) → refused i ≡ good → i .k ≤ mostRoutes → i .k ≤ i .lent
+pub cored-reached : (i : Input) (g : Got) (labels′ area′ : List ℕ) → refusedOf i ≡ good → i .k ≤ mostRoutes → i .k ≤ i .lent
     → Finished (queryOf i) (width i) (i .k) (i .labels) (i .area) g labels′ area′ → Cored i g labels′ area′
 unfolding reaches tellsDue labelsDue areaDue sumsDue
 cored-reached i g labels′ area′ is h l f =
     let on : reaches i ≡ true = ap (λ y. eqb (y .outcome) 0) is in
     record {
-      outcome = f .outcome ∙ sym (ap (λ b. cond b (told 1 (roundsOf i)) (refused i)) on);
+      outcome = f .outcome ∙ sym (ap (λ b. cond b (told 1 (roundsOf i)) (refusedOf i)) on);
       labels = f .labels ∙ sym (ap (λ b. cond b (replicate (length (i .labels)) 0) (i .labels)) on);
       area = f .area ∙ sym (ap (λ b. cond b (areaWith (width i) (i .k) (i .area) (answers (roundsOf i))) (i .area)) on);
       few = omega (arith, f .all);

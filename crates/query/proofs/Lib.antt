@@ -6,3 +6,5 @@ pub mod RoundsLaws
 pub mod DecideLaws
 pub mod ReplyLaws
 pub mod LocalArray
+pub mod Promises
+pub mod Cases

@@ -1,3 +1,4 @@
 pub mod Area
 pub mod Query
 pub mod Progress
+pub mod Promises

@@ -55,17 +55,17 @@ unfoldable pub tooSmall : Input → Bool
 tooSmall i = ltb (length (i .area)) (i .k * width i) || ltb (i .lent) (i .k) || ltb mostLabels (roomIn (i .labels))
 
 -- "Order: 13 first, then the records. [...] Then 7, 8, 9, 10, then the rounds."
-unfoldable pub refused : Input → Told
+unfoldable pub refusedOf : Input → Told
 unfolding tableFault refusal tooSmall
-refused i =
+refusedOf i =
     cond (not (eqb (tableFault (i .ask .nodes) (i .table) .outcome) 0)) (tableFault (i .ask .nodes) (i .table))
     (cond (not (eqb (refusal (queryOf i) (i .k)) 0)) (record { outcome = refusal (queryOf i) (i .k); number = 0 })
     (cond (tooSmall i) (record { outcome = 10; number = 0 }) good))
 
 -- The query reaches the rounds.
 unfoldable pub reaches : Input → Bool
-unfolding refused
-reaches i = eqb (refused i .outcome) 0
+unfolding refusedOf
+reaches i = eqb (refusedOf i .outcome) 0
 
 abbrev pub roundsOf : Input → List Ending
 roundsOf i = rounds (queryOf i) (i .k) []
@@ -73,7 +73,7 @@ roundsOf i = rounds (queryOf i) (i .k) []
 -- The outcome and the number beside it.
 unfoldable pub tellsDue : Input → Told
 unfolding reaches rounds told
-tellsDue i = cond (reaches i) (told 1 (roundsOf i)) (refused i)
+tellsDue i = cond (reaches i) (told 1 (roundsOf i)) (refusedOf i)
 
 -- "Refusals 2 to 10 and 13 change nothing in any buffer." "After 0, 1 or 11 every byte of that buffer is zero."
 unfoldable pub labelsDue : Input → List ℕ

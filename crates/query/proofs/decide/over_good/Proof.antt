@@ -6,7 +6,7 @@ use mathlib.Core.Bool.{true, false}
 use Prim.Native.Nat.{ℕ}
 use lib.Dec.{eqb}
 use Rattle.table.proofs.FaultLaws.{good-size}
-use Rattle.query.specs.Query.{Input, refused, tooSmall}
+use Rattle.query.specs.Query.{Input, refusedOf, tooSmall}
 use Rattle.query.proofs.DecideLaws.{Passed, passed, large, refused-number, refused-room, cored-refused, cored-reached}
 use Rattle.query.proofs.decide.over_good.Statement.{statement}
 use Rattle.query.proofs.decide.over_good.Tie as tie
@@ -25,7 +25,7 @@ input c = record {
 }
 
 -- the number that `refusal` gave decides
-numbered : (c : tie.After-refusal) (n : ℕ) → c .refusal .result ≡ n → eqb n 0 ≡ false → refused (input c) ≡ record { outcome = n; number = 0 }
+numbered : (c : tie.After-refusal) (n : ℕ) → c .refusal .result ≡ n → eqb n 0 ≡ false → refusedOf (input c) ≡ record { outcome = n; number = 0 }
 numbered c n e some = refused-number (input c) (start c .pre) n (sym (c .refusal .ensures) ∙ e) some
 
 -- it gave none

@@ -1,0 +1,72 @@
+-- The proved cases, asked of the call: table T and the two-arc table of P11 in bytes are good and give the theory's arcs, and buffers of just the size that a case needs
+-- are large enough. So `figure-told` and `figure-made` say of each case's own input what the P table says.
+use mathlib.Core.Path.{_≡_, refl, ap, ap₂, _∙_}
+use mathlib.Core.Bool.{false}
+use mathlib.Core.List.{List, [], _∷_, _++_}
+use Prim.Native.Nat.{ℕ, _+_, _-_, _*_, _/_, _≤_}
+use native.Mathlib.Omega.{arith}
+use native.Mathlib.Nat.{mul-div-cancel}
+use borrow.Author.Tests.{le-ltb}
+use lib.ListN.{length, replicate, length-replicate}
+use Rattle.net.specs.Limits.{mostLabels}
+use Rattle.net.specs.Net.{Arc, plain}
+use Rattle.net.specs.Round.{Query}
+use Rattle.net.specs.Figures.{T, two}
+use Rattle.words.specs.Number.{num}
+use Rattle.table.specs.Table.{fromAt, toAt, lenAt, zerosAt, arcsOf}
+use Rattle.table.specs.Fault.{tableFault, good}
+use Rattle.query.specs.Query.{Input, queryOf, tooSmall}
+
+-- a number below 256 in four bytes
+abbrev word : ℕ → List ℕ
+word n = n ∷ 0 ∷ 0 ∷ 0 ∷ []
+
+abbrev bytesOf : List Arc → List ℕ
+bytesOf [] = []
+bytesOf (x ∷ xs) = word (x .from) ++ (word (x .to) ++ (word (x .len) ++ (word 0 ++ bytesOf xs)))
+
+pub T-good : tableFault 4 (bytesOf T) ≡ good
+unfolding tableFault fromAt toAt lenAt zerosAt num
+T-good = refl
+
+pub T-arcs : arcsOf (bytesOf T) ≡ T
+unfolding arcsOf fromAt toAt lenAt num
+T-arcs = refl
+
+pub two-good : tableFault 2 (bytesOf two) ≡ good
+unfolding tableFault fromAt toAt lenAt zerosAt num
+two-good = refl
+
+pub two-arcs : arcsOf (bytesOf two) ≡ two
+unfolding arcsOf fromAt toAt lenAt num
+two-arcs = refl
+
+abbrev zeros : ℕ → List ℕ
+zeros n = replicate n 0
+
+length-zeros : (n : ℕ) → length (zeros n) ≡ n
+length-zeros n = length-replicate n 0
+
+-- a query over a table of so many nodes, with room for so many labels, and an area and summaries for k routes
+abbrev pub asking : List Arc → ℕ → ℕ → ℕ → ℕ → ℕ → ℕ → ℕ → Input
+asking arcs nodes s goal k a b room =
+    record {
+      table = bytesOf arcs;
+      ask = record { nodes = nodes; s = s; goal = goal; a = a; b = b };
+      k = k;
+      labels = zeros (room * 96);
+      area = zeros (k * (nodes - 1));
+      lent = k;
+    }
+
+module _ (arcs : List Arc) (nodes s goal k a b room : ℕ) where
+  room-is : length (zeros (room * 96)) / 96 ≡ room
+  room-is = ap (λ n. n / 96) (length-zeros (room * 96)) ∙ mul-div-cancel room (omega arith)
+
+  pub asking-query : arcsOf (bytesOf arcs) ≡ arcs → queryOf (asking arcs nodes s goal k a b room) ≡ record { net = plain nodes arcs; s = s; t = goal; a = a; b = b; room = room }
+  asking-query e = ap₂ {C = Query} (λ x r. record { net = plain nodes x; s = s; t = goal; a = a; b = b; room = r }) e room-is
+
+  pub asking-large : room ≤ mostLabels → tooSmall (asking arcs nodes s goal k a b room) ≡ false
+  unfolding tooSmall
+  asking-large h =
+      rw (le-ltb (length (zeros (k * (nodes - 1)))) (k * (nodes - 1)) (omega (arith, length-zeros (k * (nodes - 1)))), le-ltb k k (omega arith), le-ltb mostLabels (length (zeros (room * 96)) / 96) (omega (arith, room-is)))
