@@ -35,7 +35,7 @@ fn refuse(outcome: Outcome) -> Got
 }
 
 // 7, 8 or 9, or 0 where there is none of them.
-fn refusal(ask: Ask, k: u32, t: &[u8], labels: &[u8]) -> u8
+pub fn refusal(ask: Ask, k: u32, t: &[u8], labels: &[u8]) -> u8
     ensures { λ r. ⌜ r ≡ refusal (queryFor ask (now (t .entry)) (now (labels .entry))) k ⌝ }
 {
     if ask.nodes <= ask.s {
@@ -66,7 +66,7 @@ fn refusal(ask: Ask, k: u32, t: &[u8], labels: &[u8]) -> u8
 }
 
 // Whether a buffer is too small, or the label buffer too large.
-fn too_small(t: &[u8], ask: Ask, k: u32, labels: &[u8], area: &[u32], lent: usize) -> bool
+pub fn too_small(t: &[u8], ask: Ask, k: u32, labels: &[u8], area: &[u32], lent: usize) -> bool
     requires { ⌜ (1 ≤ ask .nodes) × (ask .nodes ≤ 4096) × (k ≤ 8) ⌝ }
     ensures { λ r. ⌜ r ≡ tooSmall (record { table = now (t .entry); ask = ask; k = k; labels = now (labels .entry); area = now (area .entry); lent = lent }) ⌝ }
 {

@@ -22,13 +22,13 @@ pub struct Progress {
     pub labels: [u64; 8],
 }
 
-const GOING: u8 = 0;
+pub const GOING: u8 = 0;
 
-const FOUND: u8 = 1;
+pub const FOUND: u8 = 1;
 
-const FEWER: u8 = 2;
+pub const FEWER: u8 = 2;
 
-const REFUSED: u8 = 3;
+pub const REFUSED: u8 = 3;
 
 fn with(row: [u64; 8], i: usize, v: u64) -> [u64; 8]
     requires { ⌜ i < mostRoutes ⌝ }
@@ -40,7 +40,14 @@ fn with(row: [u64; 8], i: usize, v: u64) -> [u64; 8]
 }
 
 // One round more.
-fn step(t: &[u8], ask: Ask, k: usize, labels: &mut [u8], area: &mut [u32], x: Progress) -> Progress
+pub fn step(
+    t: &[u8],
+    ask: Ask,
+    k: usize,
+    labels: &mut [u8],
+    area: &mut [u32],
+    x: Progress,
+) -> Progress
     requires { ⌜ (Accepted ask (now t)) × (roomIn (now labels) ≤ mostLabels) × (k ≤ mostRoutes) × (k * (ask .nodes - 1) ≤ length (now area)) × (x .stage ≡ 0) × (Underway (queryFor ask (now t) (now labels)) (ask .nodes - 1) k (now area) x) ⌝ }
     ensures { λ y. ⌜ (length (now (labels .exit)) ≡ length (now (labels .entry))) × (Stepped (queryFor ask (now (t .entry)) (now (labels .entry))) (ask .nodes - 1) k (now (area .entry)) x (now (area .exit)) y) ⌝ }
 {
