@@ -1,0 +1,33 @@
+-- The lines of the desk program's output (document 01).
+use mathlib.Core.Path.{_≡_}
+use mathlib.Core.List.{List, [], _∷_, _++_}
+use Prim.Native.Nat.{ℕ, _+_, _*_}
+use lib.ListN.{length}
+use Rattle.words.specs.Part.{patch}
+use Rattle.numerals.specs.Decimal.{decimal}
+
+-- Text put into a buffer at a place, and the place after it; the rest of the buffer is as it was.
+pub record Appended (l : List ℕ) (at : ℕ) (text l′ : List ℕ) (next : ℕ) : Type 0 where
+  pub is : l′ ≡ patch at (at + length text) l text
+  pub place : next ≡ at + length text
+
+abbrev pub space : ℕ
+space = 32
+
+abbrev pub newline : ℕ
+newline = 10
+
+-- A space and a number, for each.
+unfoldable pub numbersText : List ℕ → List ℕ
+unfolding decimal
+numbersText [] = []
+numbersText (v ∷ vs) = (space ∷ decimal v) ++ numbersText vs
+
+-- "a line for each route with round, length, label count and arc numbers"; "Parts of a line are parted by one space, and each line ends with a newline."
+unfoldable pub routeText : ℕ → ℕ → ℕ → List ℕ → List ℕ
+unfolding decimal numbersText
+routeText round len labels arcs = decimal round ++ (numbersText (len ∷ labels ∷ arcs) ++ (newline ∷ []))
+
+-- The most bytes that a route's line takes.
+abbrev pub mostLine : ℕ → ℕ
+mostLine n = 64 + n * 21
