@@ -33,7 +33,8 @@ module _ (net : Net) (s : ℕ) where
     pub is-candidate : Candidate taken last c
     pub least : (d : List ℕ) → Candidate taken last d → AtMost net c d
 
-  more : List ℕ → List (List ℕ)
+  -- the chains that p is extended to by one arc
+  unfoldable pub more : List ℕ → List (List ℕ)
   more p = map (λ a. p ++ (a ∷ [])) (leaving net (endOf net s p))
 
   pub candidate-e : (taken : List (List ℕ)) (c : List ℕ) → List·Memᴰ c (candidates net s taken) → Extends taken c

@@ -1,6 +1,6 @@
 -- A search ends: each turn leaves fewer candidates waiting, or takes up a chain, which brings at most as many as there are arcs.
 use mathlib.Core.Path.{_≡_, sym, ap, subst, _∙_}
-use mathlib.Core.List.{List, [], _∷_, _++_, map, flatMap, append-nil, List·Memᴰ, List·Memᴰ·head, List·Memᴰ·tail}
+use mathlib.Core.List.{List, [], _∷_, _++_, flatMap, append-nil, List·Memᴰ, List·Memᴰ·head, List·Memᴰ·tail}
 use mathlib.Core.Bool.{Bool, true, false}
 use Prim.Native.Nat.{ℕ, suc, _<_, _≤_, _+_, _-_}
 use native.Mathlib.Omega.{arith}
@@ -13,7 +13,7 @@ use Rattle.net.specs.Net.{Net}
 use Rattle.net.specs.Route.{endOf, leaves, precedes, leaving}
 use Rattle.net.specs.Search.{candidates, waiting, left}
 use Rattle.net.proofs.Order.{precedes-irrefl, precedes-trans}
-use Rattle.net.proofs.Candidates.{Candidate, candidate-i}
+use Rattle.net.proofs.Candidates.{Candidate, candidate-i, more}
 
 module _ {A : Type 0} where
   pub length-keep : (f : A → Bool) (xs : List A) → length (keep f xs) ≤ length xs
@@ -61,18 +61,15 @@ module _ (net : Net) (s : ℕ) where
   waiting-less taken last c k =
       keep-less (precedes net c) (precedes net last) (λ x h. precedes-trans net last c x (k .after) h) (candidate-i net s taken c (k .extends)) (k .after) (precedes-irrefl net c)
 
-  more : List ℕ → List (List ℕ)
-  more p = map (λ a. p ++ (a ∷ [])) (leaving net (endOf net s p))
-
-  length-more : (p : List ℕ) → length (more p) ≤ length (net .arcs)
+  length-more : (p : List ℕ) → length (more net s p) ≤ length (net .arcs)
   unfolding more leaving
   length-more p =
       omega (arith, length-map (leaving net (endOf net s p)) (λ a. p ++ (a ∷ [])), length-keep (leaves net (endOf net s p)) (upFrom 0 (length (net .arcs))), length-upFrom 0 (length (net .arcs)))
 
-  candidates-more : (taken : List (List ℕ)) (p : List ℕ) → candidates net s (taken ++ (p ∷ [])) ≡ candidates net s taken ++ more p
+  candidates-more : (taken : List (List ℕ)) (p : List ℕ) → candidates net s (taken ++ (p ∷ [])) ≡ candidates net s taken ++ more net s p
   unfolding candidates more flatMap
-  candidates-more [] p = append-nil (more p)
-  candidates-more (x ∷ taken) p = ap (λ l. more x ++ l) (candidates-more taken p) ∙ sym (mathlib.Core.List.append-assoc (more x) (candidates net s taken) (more p))
+  candidates-more [] p = append-nil (more net s p)
+  candidates-more (x ∷ taken) p = ap (λ l. more net s x ++ l) (candidates-more taken p) ∙ sym (mathlib.Core.List.append-assoc (more net s x) (candidates net s taken) (more net s p))
 
   -- a label more brings at most an arc's candidate each
   pub waiting-more : (taken : List (List ℕ)) (p last : List ℕ) → length (waiting net s (taken ++ (p ∷ [])) last) ≤ length (waiting net s taken last) + length (net .arcs)
@@ -80,7 +77,7 @@ module _ (net : Net) (s : ℕ) where
   waiting-more taken p last =
       let f = precedes net last in
       let cs = candidates net s taken in
-      omega (arith, ap (λ l. length (keep f l)) (candidates-more taken p), ap length (keep-append f cs (more p)), length-append (keep f cs) (keep f (more p)), length-keep f (more p), length-more p)
+      omega (arith, ap (λ l. length (keep f l)) (candidates-more taken p), ap length (keep-append f cs (more net s p)), length-append (keep f cs) (keep f (more net s p)), length-keep f (more net s p), length-more p)
 
   -- ---- the number falls
 

@@ -13,11 +13,8 @@ use Rattle.net.specs.Outcome.{summary, summaries, notBegun}
 use Rattle.summary.specs.declared.Summary.{Summary}
 use Rattle.summary.specs.declared.Sums.{Sums}
 use Rattle.summary.specs.Sums.{recordAt, firsts}
+use Rattle.summary.proofs.Filled.{length-firsts}
 use Rattle.query.specs.Query.{asRecord}
-
-pub length-firsts : (t : Sums) (n : ℕ) → length (firsts t n) ≡ n
-length-firsts t zero = refl
-length-firsts t (suc n) = length-append (firsts t n) (recordAt t n ∷ []) ∙ omega (arith, length-firsts t n)
 
 abbrev setAt : Sums → ℕ → ℕ → ℕ → ℕ → Sums
 setAt t r l a n = record { length = set (t .length) r l; arcs = set (t .arcs) r a; labels = set (t .labels) r n }

@@ -22,7 +22,7 @@ pub length-filled : (t : Sums) (i : ℕ) (ys : List Summary) → length (filled 
 length-filled t zero ys = refl
 length-filled t (suc i) ys = length-set (filled t i ys) i (recordAt t i) ∙ length-filled t i ys
 
-length-firsts : (t : Sums) (i : ℕ) → length (firsts t i) ≡ i
+pub length-firsts : (t : Sums) (i : ℕ) → length (firsts t i) ≡ i
 length-firsts t zero = refl
 length-firsts t (suc i) = length-append (firsts t i) (recordAt t i ∷ []) ∙ one-more (length (firsts t i)) ∙ ap suc (length-firsts t i)
 
