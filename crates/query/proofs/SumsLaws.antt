@@ -66,7 +66,7 @@ shows-more q t made r l a c e s n h x y z k =
     ∙ sym (map-append asRecord (map (summary q) made) (summary q e ∷ rest))
     ∙ ap (map asRecord) (sym (append-assoc (map (summary q) made) (summary q e ∷ []) rest) ∙ ap (λ ys. ys ++ rest) (sym (map-append (summary q) made (e ∷ []))))
 
-getD-firsts : (t : Sums) (n i : ℕ) (d : Summary) → i < n → getD (firsts t n) i d ≡ recordAt t i
+pub getD-firsts : (t : Sums) (n i : ℕ) (d : Summary) → i < n → getD (firsts t n) i d ≡ recordAt t i
 getD-firsts t zero i d h = absurd (omega arith)
 getD-firsts t (suc n) i d h = ⊎-elim
     (λ m.

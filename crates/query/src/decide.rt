@@ -7,12 +7,11 @@ use table::fault::TableCheck;
 ghost use mathlib.Core.Path.{_≡_};
 ghost use Prim.Native.Nat.{_*_, _-_, _≤_};
 ghost use lib.ListN.{length};
+ghost use Rattle.net.specs.Limits.{mostNodes, mostRoutes};
 ghost use Rattle.net.specs.Outcome.{refusal};
 ghost use Rattle.table.specs.Fault.{tableFault, good};
 ghost use Rattle.search.specs.Ask.{queryFor, roomIn};
 ghost use Rattle.query.specs.Query.{Cored, tooSmall};
-
-pub const MOST_ROUTES: u32 = 8;
 
 pub const MOST_B: u32 = 1000;
 
@@ -22,7 +21,7 @@ pub const MOST_LABELS: usize = 65535;
 fn refuse(outcome: Outcome) -> Got
     ensures { λ g. ⌜ (g .outcome ≡ outcome) × (g .n ≡ 0) ⌝ }
 {
-    let none = [0u64; 8];
+    let none = [0u64; summary::MOST_ROUTES];
     Got {
         outcome: outcome,
         sums: summary::Sums {
@@ -50,7 +49,7 @@ pub fn refusal(ask: Ask, k: u32, t: &[u8], labels: &[u8]) -> u8
     if k < 1 {
         return 8;
     }
-    if MOST_ROUTES < k {
+    if summary::MOST_ROUTES < k as usize {
         return 8;
     }
     if ask.b < 1 {
@@ -67,7 +66,7 @@ pub fn refusal(ask: Ask, k: u32, t: &[u8], labels: &[u8]) -> u8
 
 // Whether a buffer is too small, or the label buffer too large.
 pub fn too_small(t: &[u8], ask: Ask, k: u32, labels: &[u8], area: &[u32], lent: usize) -> bool
-    requires { ⌜ (1 ≤ ask .nodes) × (ask .nodes ≤ 4096) × (k ≤ 8) ⌝ }
+    requires { ⌜ (1 ≤ ask .nodes) × (ask .nodes ≤ mostNodes) × (k ≤ mostRoutes) ⌝ }
     ensures { λ r. ⌜ r ≡ tooSmall (record { table = now (t .entry); ask = ask; k = k; labels = now (labels .entry); area = now (area .entry); lent = lent }) ⌝ }
 {
     let w = ask.nodes as usize - 1;

@@ -82,7 +82,7 @@ pub fn query(
 // The outcome, and eight summaries by value.
 pub struct Rows {
     pub outcome: Outcome,
-    pub sums: [summary::Summary; 8],
+    pub sums: [summary::Summary; summary::MOST_ROUTES],
 }
 
 // The public call over eight summaries of its own, for a caller that lends no slice of records.
@@ -103,7 +103,7 @@ pub fn ask8(
         length: 0,
         arcs: 0,
         labels: 0,
-    }; 8];
+    }; summary::MOST_ROUTES];
     let outcome = query(t, nodes, s, goal, k, a, b, labels, area, &mut rows);
     Rows {
         outcome: outcome,

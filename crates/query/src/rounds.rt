@@ -17,9 +17,9 @@ ghost use Rattle.query.specs.Query.{Finished};
 pub struct Progress {
     pub r: usize,
     pub stage: u8,
-    pub length: [u64; 8],
-    pub arcs: [u64; 8],
-    pub labels: [u64; 8],
+    pub length: [u64; summary::MOST_ROUTES],
+    pub arcs: [u64; summary::MOST_ROUTES],
+    pub labels: [u64; summary::MOST_ROUTES],
 }
 
 pub const GOING: u8 = 0;
@@ -30,7 +30,7 @@ pub const FEWER: u8 = 2;
 
 pub const REFUSED: u8 = 3;
 
-fn with(row: [u64; 8], i: usize, v: u64) -> [u64; 8]
+fn with(row: [u64; summary::MOST_ROUTES], i: usize, v: u64) -> [u64; summary::MOST_ROUTES]
     requires { ⌜ i < mostRoutes ⌝ }
     ensures { λ y. ⌜ y ≡ set row i v ⌝ }
 {
@@ -140,7 +140,7 @@ pub fn all(t: &[u8], ask: Ask, k: usize, labels: &mut [u8], area: &mut [u32]) ->
     let w = ask.nodes as usize - 1;
     let end = k * w;
     words::fill::fill32_part(area, 0, end, labels::field::NONE);
-    let zeros = [0u64; 8];
+    let zeros = [0u64; summary::MOST_ROUTES];
     let mut x = Progress {
         r: 0,
         stage: GOING,

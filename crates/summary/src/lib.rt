@@ -5,6 +5,9 @@ ghost use lib.ListN.{length};
 ghost use Rattle.net.specs.Limits.{mostRoutes};
 ghost use Rattle.summary.specs.Sums.{recordAt, written};
 
+// The most routes that a query may want.
+pub const MOST_ROUTES: usize = 8;
+
 // Length, number of arcs and label count of one round.
 pub struct Summary {
     pub length: u64,
@@ -14,9 +17,9 @@ pub struct Summary {
 
 // The summaries of all rounds by value: a row of numbers for each field.
 pub struct Sums {
-    pub length: [u64; 8],
-    pub arcs: [u64; 8],
-    pub labels: [u64; 8],
+    pub length: [u64; MOST_ROUTES],
+    pub arcs: [u64; MOST_ROUTES],
+    pub labels: [u64; MOST_ROUTES],
 }
 
 // The summary of round i, from 0.

@@ -1,0 +1,5 @@
+pub mod TextLaws
+pub mod RoundsLaws
+pub mod ShapeLaws
+pub mod DeskLaws
+pub mod SaidLaws

@@ -1,0 +1,122 @@
+-- A malformed line has a number from 1 on, since the arc lines are numbered from 2; and a text that asks names at most 1,024 nodes and 4,096 arcs, since more of them is
+-- malformed. So what was read is either a malformed line, and its refusal is due, or the query that the text asks.
+use mathlib.Core.Path.{_≡_, refl, sym, ap, ap₂, subst, _∙_}
+use mathlib.Core.Logic.{_≢_}
+use mathlib.Core.Bool.{Bool, true, false, _||_, cond}
+use mathlib.Core.List.{List, []}
+use mathlib.Core.Option.{Option, none, some}
+use Prim.Native.Nat.{ℕ, zero, suc, _+_, _-_, _*_, _≤_}
+use native.Mathlib.Nat.{sub-zero}
+use native.Mathlib.Omega.{arith}
+use borrow.Author.Tests.{ltb-false}
+use lib.Dec.{ltb, eqb}
+use lib.ListN.{length, getD, take, replicate, length-replicate}
+use Rattle.net.specs.Net.{Arc}
+use Rattle.input.specs.Text.{Row, ArcLines, all, bad, withArc, withRow, arcIn, after, lineFrom, arcsFrom, Said, asks, malformed, withArcs, withHeader, said, mostNodesRead, mostArcsRead}
+use Rattle.input.specs.Parsed.{textRead, TextRead}
+use Rattle.input.specs.declared.Asked.{Asked}
+use Rattle.output.specs.Line.{Appended}
+use Rattle.query.specs.Query.{Input, input}
+use Rattle.desk_text.specs.Desk.{refusedText, replyText, tableOf, asked, textFor, deskText}
+
+-- the number of a malformed arc line is not below the first one's
+abbrev From : ℕ → ArcLines → Type 0
+From n (all xs) = Unit {0}
+From n (bad m) = n ≤ m
+
+from-less : (n : ℕ) (x : ArcLines) → From (n + 1) x → From n x
+from-less n (all xs) h = tt
+from-less n (bad m) h = omega arith
+
+with-arc : (n : ℕ) (a : Arc) (x : ArcLines) → From n x → From n (withArc a x)
+unfolding withArc
+with-arc n a (all xs) h = tt
+with-arc n a (bad m) h = h
+
+with-row : (n : ℕ) (r : Option Row) (x : ArcLines) → From n x → From n (withRow n r x)
+unfolding withRow
+with-row n none x h = omega arith
+with-row n (some r) x h = with-arc n (arcIn (r .values)) x h
+
+ended : (b : Bool) (n : ℕ) → From n (cond b (all []) (bad n))
+ended true n = tt
+ended false n = omega arith
+
+arcs-from : (m : ℕ) (text : List ℕ) (at n : ℕ) → From n (arcsFrom m text at n)
+unfolding arcsFrom
+arcs-from zero text at n = ended (eqb at (length text)) n
+arcs-from (suc m) text at n =
+    with-row n (lineFrom 3 text at) (arcsFrom m text (after at (lineFrom 3 text at)) (n + 1)) (from-less n (arcsFrom m text (after at (lineFrom 3 text at)) (n + 1)) (arcs-from m text (after at (lineFrom 3 text at)) (n + 1)))
+
+-- what is known of what a text says
+abbrev pub Sayable : Said → Type 0
+Sayable (asks vs xs) = (getD vs 0 0 ≤ mostNodesRead) × (getD vs 1 0 ≤ mostArcsRead)
+Sayable (malformed n) = 1 ≤ n
+
+with-arcs : (vs : List ℕ) (x : ArcLines) → getD vs 0 0 ≤ mostNodesRead → getD vs 1 0 ≤ mostArcsRead → From 2 x → Sayable (withArcs vs x)
+unfolding withArcs
+with-arcs vs (all xs) h g f = (h, g)
+with-arcs vs (bad m) h g f = omega arith
+
+limited : (x y : Bool) (vs : List ℕ) (z : ArcLines) → (x ≡ false → getD vs 0 0 ≤ mostNodesRead) → (y ≡ false → getD vs 1 0 ≤ mostArcsRead) → From 2 z
+    → Sayable (cond (x || y) (malformed 1) (withArcs vs z))
+limited true y vs z h g f = omega arith
+limited false true vs z h g f = omega arith
+limited false false vs z h g f = with-arcs vs z (h refl) (g refl) f
+
+with-header : (text : List ℕ) (r : Option Row) → Sayable (withHeader text r)
+unfolding withHeader
+with-header text none = omega arith
+with-header text (some r) =
+    limited (ltb mostNodesRead (getD (r .values) 0 0)) (ltb mostArcsRead (getD (r .values) 1 0)) (r .values) (arcsFrom (getD (r .values) 1 0) text (r .next) 2)
+    (ltb-false mostNodesRead (getD (r .values) 0 0)) (ltb-false mostArcsRead (getD (r .values) 1 0)) (arcs-from (getD (r .values) 1 0) text (r .next) 2)
+
+pub sayable : (text : List ℕ) → Sayable (said text)
+unfolding said
+sayable text = with-header text (lineFrom 7 text 0)
+
+-- ---- what was read of a text
+
+pub room : (n : ℕ) → n ≤ length (replicate {A = ℕ} n 0)
+room n = omega (arith, length-replicate {A = ℕ} n 0)
+
+-- text that is the same
+pub appended-as : (out text due out′ : List ℕ) (n : ℕ) → text ≡ due → Appended out 0 text out′ n → Appended out 0 due out′ n
+appended-as out text due out′ n e h = subst (λ l. Appended out 0 l out′ n) e h
+
+pub desk-malformed : (text : List ℕ) (x : Asked) (l l′ : List ℕ) → TextRead text x l l′ → x .line ≢ 0 → refusedText (record { outcome = 12; number = x .line }) ≡ deskText text
+unfolding deskText textFor
+desk-malformed text x l l′ r h = go (said text) (r .is)
+  where
+    go : (s : Said) → textRead s x l l′ → refusedText (record { outcome = 12; number = x .line }) ≡ textFor s
+    go (asks vs xs) w = absurd (h (w .0))
+    go (malformed n) w = ap (λ m. refusedText (record { outcome = 12; number = m })) w
+
+-- the query that was read, over the table's part that has its arcs
+abbrev readQuery : Asked → List ℕ → Input
+readQuery x t = input t (x .nodes) (x .s) (x .goal) (x .k) (x .a) (x .b) (replicate 49152 0) (replicate 8184 0) 8
+
+pub record Asking (text : List ℕ) (x : Asked) (l : List ℕ) : Type 0 where
+  pub few : x .nodes ≤ 1024
+  pub long : x .arcs * 16 ≤ length l
+  pub due : replyText (readQuery x (take (x .arcs * 16 - 0) l)) ≡ deskText text
+
+pub asking : (text : List ℕ) (x : Asked) (l : List ℕ) → TextRead text x (replicate 65536 0) l → x .line ≡ 0 → Asking text x l
+unfolding deskText textFor asked tableOf
+asking text x l r h = go (said text) refl (sayable text) (r .is)
+  where
+    n : x .arcs * 16 - 0 ≡ x .arcs * 16
+    n = sub-zero (x .arcs * 16)
+
+    size : length l ≡ 65536
+    size = r .long ∙ length-replicate {A = ℕ} 65536 0
+
+    go : (s : Said) → said text ≡ s → Sayable s → textRead s x (replicate 65536 0) l → Asking text x l
+    go (malformed m) e k w = absurd (omega arith)
+    go (asks vs xs) e k w =
+        let v : (getD vs 0 0 ≡ x .nodes) × (getD vs 1 0 ≡ x .arcs) = (ap (λ ys. getD ys 0 0) (w .1), ap (λ ys. getD ys 1 0) (w .1)) in
+        record {
+          few = omega (arith, k .0, v .0);
+          long = omega (arith, k .1, v .1, size);
+          due = ap (λ t. replyText (readQuery x t)) (ap₂ take (n ∙ ap (λ m. m * 16) (sym (w .2))) (w .3)) ∙ ap (λ ys. replyText (asked ys xs)) (sym (w .1)) ∙ ap textFor (sym e);
+        }

@@ -1,0 +1,78 @@
+-- The desk program: from the text that it reads to the text that it prints (document 01).
+use mathlib.Core.Bool.{_&&_, _||_, cond}
+use mathlib.Core.List.{List, [], _∷_, _++_}
+use Prim.Native.Nat.{ℕ, suc, _+_, _*_}
+use lib.Dec.{leb, eqb}
+use lib.ListN.{length, getD, take, replicate}
+use Rattle.net.specs.Net.{Arc}
+use Rattle.net.specs.Route.{lengthOf}
+use Rattle.net.specs.Round.{Query, Ending, answered, unanswered, refused}
+use Rattle.net.specs.Outcome.{Told, answers}
+use Rattle.numerals.specs.Decimal.{decimal}
+use Rattle.input.specs.Text.{Said, asks, malformed, said}
+use Rattle.input.specs.Parsed.{putArcs}
+use Rattle.output.specs.Line.{routeText, newline}
+use Rattle.query.specs.Query.{Input, input, queryOf, reaches, roundsOf, tellsDue}
+
+-- The fixed words of its output: `refused`, `end`, `routes`, `none`, each with the space that follows it, and for `routes` the one before it.
+abbrev pub refusedWord : List ℕ
+refusedWord = 114 ∷ 101 ∷ 102 ∷ 117 ∷ 115 ∷ 101 ∷ 100 ∷ 32 ∷ []
+
+abbrev pub endWord : List ℕ
+endWord = 101 ∷ 110 ∷ 100 ∷ 32 ∷ []
+
+abbrev pub routesWord : List ℕ
+routesWord = 32 ∷ 114 ∷ 111 ∷ 117 ∷ 116 ∷ 101 ∷ 115 ∷ 32 ∷ []
+
+abbrev pub noneWord : List ℕ
+noneWord = 110 ∷ 111 ∷ 110 ∷ 101 ∷ 32 ∷ []
+
+-- "It prints `refused`, the number, and for 2 to 6 the record or for 12 the line."
+unfoldable pub refusedText : Told → List ℕ
+unfolding decimal
+refusedText x =
+    refusedWord ++ (decimal (x .outcome) ++ (cond ((leb 2 (x .outcome) && leb (x .outcome) 6) || eqb (x .outcome) 12) (32 ∷ decimal (x .number)) [] ++ (newline ∷ [])))
+
+-- "then a line for each route with round, length, label count and arc numbers; then, if the last round has no answer, `none` and its label count. Under 11 that round is
+-- the refused one, and the count is the room." The rounds from number j on.
+unfoldable pub roundsText : Query → ℕ → List Ending → List ℕ
+unfolding routeText lengthOf decimal
+roundsText q j [] = []
+roundsText q j (answered p n ∷ rs) = routeText j (lengthOf (q .net) p) n p ++ roundsText q (j + 1) rs
+roundsText q j (unanswered n ∷ rs) = noneWord ++ (decimal n ++ (newline ∷ []))
+roundsText q j (refused ∷ rs) = noneWord ++ (decimal (q .room) ++ (newline ∷ []))
+
+-- "Otherwise `end`, the outcome, `routes` and how many"
+unfoldable pub endText : Input → List ℕ
+unfolding decimal roundsText answers tellsDue
+endText i =
+    endWord ++ (decimal (tellsDue i .outcome) ++ (routesWord ++ (decimal (length (answers (roundsOf i))) ++ ((newline ∷ []) ++ roundsText (queryOf i) 1 (roundsOf i)))))
+
+unfoldable pub replyText : Input → List ℕ
+unfolding endText refusedText reaches
+replyText i = cond (reaches i) (endText i) (refusedText (tellsDue i))
+
+-- "It has 512 labels."
+abbrev pub deskLabels : ℕ
+deskLabels = 512
+
+-- The arcs as a road table.
+unfoldable pub tableOf : List Arc → List ℕ
+unfolding putArcs
+tableOf xs = take (length xs * 16) (putArcs (replicate 65536 0) 0 xs)
+
+-- The query that a text asks: the seven numbers of its first line are N M S T K A B.
+unfoldable pub asked : List ℕ → List Arc → Input
+unfolding tableOf
+asked vs xs =
+    input (tableOf xs) (getD vs 0 0) (getD vs 2 0) (getD vs 3 0) (getD vs 4 0) (getD vs 5 0) (getD vs 6 0) (replicate (deskLabels * 96) 0) (replicate 8184 0) 8
+
+unfoldable pub textFor : Said → List ℕ
+unfolding refusedText replyText asked
+textFor (malformed n) = refusedText (record { outcome = 12; number = n })
+textFor (asks vs xs) = replyText (asked vs xs)
+
+-- "12 comes before every other refusal."
+unfoldable pub deskText : List ℕ → List ℕ
+unfolding said textFor
+deskText text = textFor (said text)

@@ -1,0 +1,5 @@
+pub mod Desk
+pub mod Written
+pub mod Print
+pub mod Lines
+pub mod Shown
