@@ -1,0 +1,60 @@
+-- `comparison::draw::arcs` is safe and ends: its loop counts up to its end, and keeps the length of each slice that it writes.
+use borrow.Author.Needs.{needs}
+use Prim.Native.Nat.{_≤_, _-_}
+use mathlib.Core.Path.{_≡_}
+use lib.ListN.{length}
+use Rattle.comparison.proofs.draw.arcs.Statement.{statement}
+use Rattle.comparison.proofs.draw.arcs.Tie as tie
+
+abbrev Inv-loop : tie.InvT-loop
+Inv-loop seed₀ head arcs₀ m i₀ seed arcs i = (i ≤ m) × (length seed ≡ length seed₀) × (length arcs ≡ length arcs₀)
+
+abbrev μ-loop : tie.MeasureT-loop
+μ-loop seed₀ head arcs₀ m i₀ seed arcs i = m - i
+
+get-requires : tie.Need-get-requires Inv-loop μ-loop
+get-requires c κs = search needs
+
+loop-holds : tie.Need-loop-holds Inv-loop μ-loop
+loop-holds c = search needs
+
+get-requires-2 : tie.Need-get-requires-2 Inv-loop μ-loop
+get-requires-2 c κs = search needs
+
+arc-requires : tie.Need-arc-requires Inv-loop μ-loop
+arc-requires c κs = search needs
+
+add-i : tie.Need-add-i Inv-loop μ-loop
+add-i c = search needs
+
+loop-less : tie.Need-loop-less Inv-loop μ-loop
+loop-less c = search needs
+
+loop-again : tie.Need-loop-again Inv-loop μ-loop
+loop-again c = search needs
+
+same-length : tie.Need-same-length Inv-loop μ-loop
+same-length c = search needs
+
+same-length-2 : tie.Need-same-length-2 Inv-loop μ-loop
+same-length-2 c = search needs
+
+returns : tie.Need-returns Inv-loop μ-loop
+returns c = search needs
+
+pub arcs-spec : {M : Type 1} → statement M
+arcs-spec =
+    tie.close
+    (tie.spec
+    Inv-loop
+    μ-loop
+    get-requires
+    loop-holds
+    get-requires-2
+    arc-requires
+    add-i
+    loop-less
+    loop-again
+    same-length
+    same-length-2
+    returns)
