@@ -1,5 +1,4 @@
 // Queries and tables from a generator: its state is cell 0 of `seed`.
-use listing::cells;
 
 fn next(x: usize) -> usize {
     let y = x % 2147483648;
@@ -8,11 +7,6 @@ fn next(x: usize) -> usize {
 
 fn rest(x: usize, n: usize) -> usize {
     if n == 0 { 0 } else { x % n }
-}
-
-// One less, but not below 0.
-pub fn less_one(x: usize) -> usize {
-    if x == 0 { 0 } else { x - 1 }
 }
 
 // A number below n.
@@ -70,14 +64,16 @@ fn numerator(seed: &mut [usize], b: usize) -> usize {
         return b;
     }
     if once_in(seed, 3) {
-        return less_one(b);
+        return cells::less_one(b);
     }
     below(seed, b)
 }
 
+// Ample room is 64 labels. 65 stands for as many as the query needs, 66 for one less.
 fn room(seed: &mut [usize]) -> usize {
-    if once_in(seed, 4) {
-        64
+    let x = below(seed, 4);
+    if x < 3 {
+        cells::add(x, 64)
     } else {
         below(seed, 17)
     }
@@ -114,10 +110,52 @@ fn limits(seed: &mut [usize], head: &mut [usize]) {
     cells::put(head, 7, room(seed));
 }
 
-// Nodes, arcs, s, t, k, a, b and the room.
+// Words of the area: those of the slots and some more, but one time in 60 one less.
+fn words(seed: &mut [usize], slots: usize) -> usize {
+    if once_in(seed, 60) {
+        cells::less_one(slots)
+    } else {
+        cells::add(slots, below(seed, 4))
+    }
+}
+
+// Summaries: eight, but one time in eight as many as are wanted or one less.
+fn summaries(seed: &mut [usize], k: usize) -> usize {
+    if once_in(seed, 8) {
+        if once_in(seed, 6) {
+            cells::less_one(k)
+        } else {
+            k
+        }
+    } else {
+        8
+    }
+}
+
+// Table bytes past the last whole record.
+fn stray(seed: &mut [usize]) -> usize {
+    if once_in(seed, 200) {
+        cells::add(below(seed, 15), 1)
+    } else {
+        0
+    }
+}
+
+// The lengths of the lent buffers.
+fn buffers(seed: &mut [usize], head: &mut [usize]) {
+    let k = cells::get(head, 4);
+    let slots = cells::place(k, cells::less_one(cells::get(head, 0)), 0);
+    cells::put(head, 8, words(seed, slots));
+    cells::put(head, 9, summaries(seed, k));
+    cells::put(head, 10, stray(seed));
+    cells::put(head, 11, below(seed, 96));
+}
+
+// Nodes, arcs, s, t, k, a, b, the room; words of the area, summaries, table bytes past the last whole record, label bytes past the last whole label.
 fn query(seed: &mut [usize], head: &mut [usize]) {
     ends(seed, head);
     limits(seed, head);
+    buffers(seed, head);
 }
 
 fn length(seed: &mut [usize]) -> usize {
@@ -128,6 +166,15 @@ fn length(seed: &mut [usize]) -> usize {
         return 1000000;
     }
     cells::add(below(seed, 4), 1)
+}
+
+// Bytes 12 to 15.
+fn zeros(seed: &mut [usize]) -> usize {
+    if once_in(seed, 300) {
+        cells::add(below(seed, 256), 1)
+    } else {
+        0
+    }
 }
 
 // The start node after `from`: the same one or the next.
@@ -156,13 +203,14 @@ fn arc(seed: &mut [usize], n: usize, arcs: &mut [usize], i: usize) {
     let before = if i == 0 {
         0
     } else {
-        cells::get(arcs, cells::three(i - 1))
+        cells::get(arcs, cells::place(i - 1, 4, 0))
     };
     let from = start(seed, before, n);
-    let at = cells::three(i);
+    let at = cells::place(i, 4, 0);
     cells::put(arcs, at, from);
     cells::put(arcs, cells::add(at, 1), end(seed, from, n));
     cells::put(arcs, cells::add(at, 2), length(seed));
+    cells::put(arcs, cells::add(at, 3), zeros(seed));
 }
 
 fn arcs(seed: &mut [usize], head: &[usize], arcs: &mut [usize]) {
@@ -172,9 +220,8 @@ fn arcs(seed: &mut [usize], head: &[usize], arcs: &mut [usize]) {
     }
 }
 
-// A query and its table; and how many bytes of the label buffer are no label.
-pub fn case(seed: &mut [usize], head: &mut [usize], to: &mut [usize]) -> usize {
+// A query and its table.
+pub(crate) fn case(seed: &mut [usize], head: &mut [usize], to: &mut [usize]) {
     query(seed, head);
     arcs(seed, head, to);
-    below(seed, 96)
 }

@@ -1,20 +1,24 @@
-// The library against the lister, on tables and queries from a fixed generator: how many there were, how many agreed, and how often each outcome occurred.
+// The library against the lister, on tables and queries from a fixed generator and on damaged texts: how many there were, how many agreed, how often each outcome
+// occurred, and the first difference in full.
 mod agree;
 mod case;
 mod draw;
+mod library;
+mod report;
+mod texts;
 
 const CASES: usize = 6000;
 
 // One more in cell i.
 fn add_one(tally: &mut [usize], i: usize) {
-    let n = listing::cells::get(tally, i);
-    listing::cells::put(tally, i, listing::cells::add(n, 1));
+    let n = cells::get(tally, i);
+    cells::put(tally, i, cells::add(n, 1));
 }
 
 // The cell of the refused round; cell 30 is for none.
 fn refused_round(found: &[usize]) -> usize {
-    if listing::cells::get(found, 1) == 11 {
-        listing::cells::add(13, listing::cells::get(found, 2))
+    if cells::get(found, 1) == 11 {
+        cells::add(13, cells::get(found, 2))
     } else {
         30
     }
@@ -22,20 +26,18 @@ fn refused_round(found: &[usize]) -> usize {
 
 // Cells 0 to 13 of the tally count the outcomes, cells 14 to 21 the rounds refused for room, cell 32 the cases that agree, cell 31 those that do not.
 fn count(tally: &mut [usize], found: &[usize]) {
-    add_one(tally, listing::cells::get(found, 1));
+    add_one(tally, cells::get(found, 1));
     add_one(tally, refused_round(found));
-    add_one(
-        tally,
-        listing::cells::add(31, listing::cells::get(found, 0)),
-    );
+    add_one(tally, cells::add(31, cells::get(found, 0)));
 }
 
 fn one(seed: &mut [usize], tally: &mut [usize]) {
-    let mut head = [0usize; 8];
-    let mut arcs = [0usize; 36];
+    let mut head = [0usize; 12];
+    let mut arcs = [0usize; 48];
     let mut found = [0usize; 3];
-    let odd = draw::case(seed, &mut head, &mut arcs);
-    case::run(&head, &arcs, odd, &mut found);
+    draw::case(seed, &mut head, &mut arcs);
+    case::fit_room(&mut head, &arcs);
+    case::run(&head, &arcs, cells::get(tally, 31) == 0, &mut found);
     count(tally, &found);
 }
 
@@ -49,7 +51,7 @@ fn line(name: &[u8], n: usize, v: usize) {
 
 fn outcomes(tally: &[usize]) {
     for i in 0..14 {
-        line(b"outcome ", i, listing::cells::get(tally, i));
+        line(b"outcome ", i, cells::get(tally, i));
     }
 }
 
@@ -58,7 +60,7 @@ fn refused_rounds(tally: &[usize]) {
         line(
             b"outcome 11 in round ",
             i,
-            listing::cells::get(tally, listing::cells::add(13, i)),
+            cells::get(tally, cells::add(13, i)),
         );
     }
 }
@@ -69,11 +71,26 @@ fn all(seed: &mut [usize], tally: &mut [usize]) {
     }
 }
 
+fn damaged() {
+    let mut tally = [0usize; 2];
+    texts::all(
+        &mut tally,
+        b"4 5 0 3 4 1 2\n0 1 2\n0 2 3\n1 2 1\n1 3 2\n2 3 2\n",
+    );
+    let agreed = cells::get(&tally, 1);
+    line(
+        b"damaged texts agreed, of ",
+        cells::add(cells::get(&tally, 0), agreed),
+        agreed,
+    );
+}
+
 fn main() {
     let mut tally = [0usize; 33];
     let mut seed = [1usize; 1];
     all(&mut seed, &mut tally);
-    line(b"agreed, of ", CASES, listing::cells::get(&tally, 32));
+    line(b"agreed, of ", CASES, cells::get(&tally, 32));
     outcomes(&tally);
     refused_rounds(&tally);
+    damaged();
 }

@@ -30,7 +30,7 @@ fn at(t: &[u8], i: usize) {
     }
 }
 
-pub fn all(t: &[u8]) {
+pub(crate) fn all(t: &[u8]) {
     let mut i = 0;
     while i < t.len() {
         at(t, i);

@@ -14,7 +14,8 @@ use Rattle.lists.proofs.Cases.{cases}
 use Rattle.net.specs.Net.{Arc}
 use Rattle.numerals.specs.Decimal.{Number, number}
 use Rattle.input.specs.Text.{Row, separator, prepend, withNumber, past, lineFrom, ArcLines, all, bad, withArc, arcIn, withRow, after, arcsFrom}
-use Rattle.input.specs.Parsed.{putArc, putArcs, arcsRead}
+use Rattle.table.specs.Table.{putArc}
+use Rattle.input.specs.Parsed.{putArcs, arcsRead}
 use Rattle.input.specs.declared.ArcsRead.the-variants.{All, Bad}
 use Rattle.input.proofs.LineLaws.{marked-within}
 

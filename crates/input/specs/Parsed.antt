@@ -6,8 +6,8 @@ use mathlib.Core.Option.{Option, none, some}
 use Prim.Native.Nat.{ℕ, _+_, _*_}
 use lib.Dec.{eqb}
 use lib.ListN.{length, getD, drop}
-use Rattle.words.specs.Number.{put}
 use Rattle.net.specs.Net.{Arc}
+use Rattle.table.specs.Table.{putArc}
 use Rattle.numerals.specs.Decimal.{Number, number}
 use Rattle.input.specs.Text.{Row, lineFrom, ArcLines, all, bad, arcIn, arcsFrom, Said, asks, malformed, said}
 use Rattle.input.specs.declared.Next.{Next}
@@ -29,11 +29,7 @@ abbrev pub lineOf : Next → List ℕ → Option Row
 lineOf (At p) vs = some (record { values = vs; next = p })
 lineOf Malformed vs = none
 
--- A table's bytes with record i made of an arc, and with records from i on made of arcs; bytes 12 to 15 of a record stay.
-unfoldable pub putArc : List ℕ → ℕ → Arc → List ℕ
-unfolding put
-putArc l i x = put 4 (put 4 (put 4 l (i * 16 + 0) (x .from)) (i * 16 + 4) (x .to)) (i * 16 + 8) (x .len)
-
+-- A table's bytes with records from i on made of arcs.
 unfoldable pub putArcs : List ℕ → ℕ → List Arc → List ℕ
 unfolding putArc
 putArcs l i [] = l

@@ -4,7 +4,7 @@ ghost use Prim.Native.Nat.{_+_, _*_, _≤_, _<_};
 ghost use lib.ListN.{length};
 ghost use Rattle.numerals.specs.Read.{readOf};
 ghost use Rattle.input.specs.Text.{separator, lineFrom, mostArcsRead};
-ghost use Rattle.input.specs.Parsed.{numberBefore, lineOf, putArc, arcRead, TableRead, TextRead};
+ghost use Rattle.input.specs.Parsed.{numberBefore, lineOf, arcRead, TableRead, TextRead};
 use numerals::Numeral;
 
 pub const MOST_NODES: u32 = 1024;
@@ -76,16 +76,6 @@ fn line(text: &[u8], at: usize, into: &mut [u32]) -> Next
     Next::At(p)
 }
 
-// An arc as record i of the table.
-fn put_arc(table: &mut [u8], i: usize, from: u32, to: u32, len: u32)
-    requires { ⌜ i * 16 + 16 ≤ length (now table) ⌝ }
-    ensures { λ r. ⌜ now (table .exit) ≡ putArc (now (table .entry)) i (record { from = from; to = to; len = len }) ⌝ }
-{
-    words::number::write32(table, i * 16 + 0, from);
-    words::number::write32(table, i * 16 + 4, to);
-    words::number::write32(table, i * 16 + 8, len);
-}
-
 // The arc line at `at`, as record i of the table.
 fn arc(text: &[u8], at: usize, i: usize, table: &mut [u8]) -> Next
     requires { ⌜ (at ≤ length (now text)) × (i * 16 + 16 ≤ length (now table)) ⌝ }
@@ -95,7 +85,7 @@ fn arc(text: &[u8], at: usize, i: usize, table: &mut [u8]) -> Next
     let x = line(text, at, &mut row);
     match x {
         Next::At(next) => {
-            put_arc(table, i, row[0], row[1], row[2]);
+            table::arc::write(table, i, row[0], row[1], row[2]);
             Next::At(next)
         }
         Next::Malformed => Next::Malformed,

@@ -1,32 +1,41 @@
-// The list of all partial routes. A row has ten cells: length, number of arcs, end node, and seven arc numbers.
-use crate::cells;
+// The list of all partial routes. A row has 27 cells: length, number of arcs, end node, and 24 arc numbers. An arc has four: from, to, length, and what should be zero.
 
-pub fn length(rows: &[usize], r: usize) -> usize {
-    cells::get(rows, cells::ten(r))
+pub(crate) const ROW: usize = 27;
+
+pub(crate) const MOST_ROWS: usize = 1000;
+
+pub(crate) const MOST_ARCS: usize = 24;
+
+pub(crate) fn length(rows: &[usize], r: usize) -> usize {
+    cells::get(rows, cells::place(r, ROW, 0))
 }
 
-pub fn count(rows: &[usize], r: usize) -> usize {
-    cells::get(rows, cells::add(cells::ten(r), 1))
+pub(crate) fn count(rows: &[usize], r: usize) -> usize {
+    cells::get(rows, cells::place(r, ROW, 1))
 }
 
-pub fn end(rows: &[usize], r: usize) -> usize {
-    cells::get(rows, cells::add(cells::ten(r), 2))
+pub(crate) fn end(rows: &[usize], r: usize) -> usize {
+    cells::get(rows, cells::place(r, ROW, 2))
 }
 
-pub fn arc(rows: &[usize], r: usize, j: usize) -> usize {
-    cells::get(rows, cells::add(cells::ten(r), cells::add(j, 3)))
+pub(crate) fn arc(rows: &[usize], r: usize, j: usize) -> usize {
+    cells::get(rows, cells::place(r, ROW, cells::add(j, 3)))
 }
 
-pub fn tail_of(arcs: &[usize], x: usize) -> usize {
-    cells::get(arcs, cells::three(x))
+pub(crate) fn tail_of(arcs: &[usize], x: usize) -> usize {
+    cells::get(arcs, cells::place(x, 4, 0))
 }
 
-pub fn head_of(arcs: &[usize], x: usize) -> usize {
-    cells::get(arcs, cells::add(cells::three(x), 1))
+pub(crate) fn head_of(arcs: &[usize], x: usize) -> usize {
+    cells::get(arcs, cells::place(x, 4, 1))
 }
 
-pub fn length_of(arcs: &[usize], x: usize) -> usize {
-    cells::get(arcs, cells::add(cells::three(x), 2))
+pub(crate) fn length_of(arcs: &[usize], x: usize) -> usize {
+    cells::get(arcs, cells::place(x, 4, 2))
+}
+
+pub(crate) fn last_of(arcs: &[usize], x: usize) -> usize {
+    cells::get(arcs, cells::place(x, 4, 3))
 }
 
 // Does an arc of row r lead to node v?
@@ -53,65 +62,71 @@ fn goes_on(arcs: &[usize], s: usize, rows: &[usize], r: usize, x: usize) -> bool
 }
 
 fn copy_arcs(rows: &mut [usize], r: usize, to: usize) {
-    for j in 3..10 {
-        let v = cells::get(rows, cells::add(cells::ten(r), j));
-        cells::put(rows, cells::add(cells::ten(to), j), v);
+    for j in 3..ROW {
+        let v = cells::get(rows, cells::place(r, ROW, j));
+        cells::put(rows, cells::place(to, ROW, j), v);
     }
 }
 
-// The first three cells of a row.
-fn put_row(rows: &mut [usize], at: usize, long: usize, n: usize, v: usize) {
-    cells::put(rows, at, long);
-    cells::put(rows, cells::add(at, 1), n);
-    cells::put(rows, cells::add(at, 2), v);
+// The first three cells of row r.
+fn put_row(rows: &mut [usize], r: usize, long: usize, n: usize, v: usize) {
+    cells::put(rows, cells::place(r, ROW, 0), long);
+    cells::put(rows, cells::place(r, ROW, 1), n);
+    cells::put(rows, cells::place(r, ROW, 2), v);
 }
 
 // Row `to` becomes row r with arc x after it.
 fn extend(arcs: &[usize], rows: &mut [usize], r: usize, x: usize, to: usize) {
     let long = cells::add(length(rows, r), length_of(arcs, x));
     let n = count(rows, r);
-    let at = cells::ten(to);
     copy_arcs(rows, r, to);
-    put_row(rows, at, long, cells::add(n, 1), head_of(arcs, x));
-    cells::put(rows, cells::add(at, cells::add(n, 3)), x);
+    put_row(rows, to, long, cells::add(n, 1), head_of(arcs, x));
+    cells::put(rows, cells::place(to, ROW, cells::add(n, 3)), x);
 }
 
-// Adds row r with arc x after it, if that is a partial route. Returns how many rows there are now, at most 2,001.
-fn offer(arcs: &[usize], s: usize, rows: &mut [usize], r: usize, x: usize, used: usize) -> usize {
-    if used > 2000 {
+// Where row r goes on by arc x to an unvisited node: that partial route, and all that begin with it. Returns how many rows there are now.
+fn deeper(
+    arcs: &[usize],
+    m: usize,
+    s: usize,
+    rows: &mut [usize],
+    r: usize,
+    x: usize,
+    used: usize,
+    left: usize,
+) -> usize {
+    if used > MOST_ROWS {
         return used;
     }
     if !goes_on(arcs, s, rows, r, x) {
         return used;
     }
     extend(arcs, rows, r, x, used);
-    cells::add(used, 1)
+    spread(arcs, m, s, rows, used, used + 1, left)
 }
 
-// Adds every partial route that is row r with one arc more.
-fn spread(arcs: &[usize], m: usize, s: usize, rows: &mut [usize], r: usize, used: usize) -> usize {
+// Every partial route that begins with row r and has up to `left` arcs more. Returns how many rows there are now.
+fn spread(
+    arcs: &[usize],
+    m: usize,
+    s: usize,
+    rows: &mut [usize],
+    r: usize,
+    used: usize,
+    left: usize,
+) -> usize {
+    if left == 0 {
+        return used;
+    }
     let mut n = used;
     for x in 0..m {
-        n = offer(arcs, s, rows, r, x, n);
+        n = deeper(arcs, m, s, rows, r, x, n, left - 1);
     }
     n
 }
 
-// Row r's turn, where there is such a row.
-fn visit(arcs: &[usize], m: usize, s: usize, rows: &mut [usize], r: usize, used: usize) -> usize {
-    if r < used {
-        spread(arcs, m, s, rows, r, used)
-    } else {
-        used
-    }
-}
-
-// Lists the partial routes from s: the empty chain, and what extends each row listed. Returns how many there are, at most 2,001; over 2,000 are not all listed.
-pub fn list(arcs: &[usize], m: usize, s: usize, rows: &mut [usize]) -> usize {
+// Lists the partial routes from s: the empty chain, and by recursion to unvisited nodes all that extend it. Returns how many there are; over 1,000 are not all listed.
+pub(crate) fn list(arcs: &[usize], m: usize, s: usize, rows: &mut [usize]) -> usize {
     cells::put(rows, 2, s);
-    let mut n: usize = 1;
-    for r in 0..2001 {
-        n = visit(arcs, m, s, rows, r, n);
-    }
-    n
+    spread(arcs, m, s, rows, 0, 1, MOST_ARCS)
 }

@@ -1,12 +1,11 @@
-// The refusals of a text that is well formed, in their order. head: nodes, arcs, s, t, k, a, b. arcs: from, to, length of each.
-use crate::cells;
+// The refusals in their order. head: nodes, arcs, s, t, k, a, b, the room, words of the area, summaries, table bytes past the last whole record.
+use crate::chains;
 
 // What is wrong with record i, the lowest of 2 to 6, or 0.
 fn record_fault(nodes: usize, arcs: &[usize], i: usize) -> usize {
-    let at = cells::three(i);
-    let from = cells::get(arcs, at);
-    let to = cells::get(arcs, cells::add(at, 1));
-    let long = cells::get(arcs, cells::add(at, 2));
+    let from = chains::tail_of(arcs, i);
+    let to = chains::head_of(arcs, i);
+    let long = chains::length_of(arcs, i);
     if from >= nodes {
         return 2;
     }
@@ -22,8 +21,11 @@ fn record_fault(nodes: usize, arcs: &[usize], i: usize) -> usize {
     if long > 1000000 {
         return 4;
     }
+    if chains::last_of(arcs, i) > 0 {
+        return 5;
+    }
     if i > 0 {
-        if from < cells::get(arcs, cells::three(i - 1)) {
+        if from < chains::tail_of(arcs, i - 1) {
             return 6;
         }
     }
@@ -31,13 +33,24 @@ fn record_fault(nodes: usize, arcs: &[usize], i: usize) -> usize {
 }
 
 // The lowest faulty record, or m.
-pub fn faulty(nodes: usize, m: usize, arcs: &[usize]) -> usize {
+pub(crate) fn faulty(nodes: usize, m: usize, arcs: &[usize]) -> usize {
     for i in 0..m {
         if record_fault(nodes, arcs, i) > 0 {
             return i;
         }
     }
     m
+}
+
+fn size_fault(head: &[usize]) -> bool {
+    let n = cells::get(head, 0);
+    if n < 1 {
+        return true;
+    }
+    if n > 4096 {
+        return true;
+    }
+    cells::get(head, 10) > 0
 }
 
 fn ends_fault(head: &[usize]) -> bool {
@@ -73,9 +86,20 @@ fn threshold_fault(head: &[usize]) -> bool {
     a >= b
 }
 
+fn buffer_fault(head: &[usize]) -> bool {
+    let k = cells::get(head, 4);
+    if cells::get(head, 8) < cells::mul(k, cells::less_one(cells::get(head, 0))) {
+        return true;
+    }
+    if cells::get(head, 9) < k {
+        return true;
+    }
+    cells::get(head, 7) > 65535
+}
+
 // The refusal due, with the faulty record `at`, or 0.
-pub fn refusal(head: &[usize], arcs: &[usize], at: usize) -> usize {
-    if cells::get(head, 0) == 0 {
+pub(crate) fn refusal(head: &[usize], arcs: &[usize], at: usize) -> usize {
+    if size_fault(head) {
         return 13;
     }
     if at < cells::get(head, 1) {
@@ -89,6 +113,9 @@ pub fn refusal(head: &[usize], arcs: &[usize], at: usize) -> usize {
     }
     if threshold_fault(head) {
         return 9;
+    }
+    if buffer_fault(head) {
+        return 10;
     }
     0
 }

@@ -1,9 +1,8 @@
 // The rounds, each by its definition over the whole list. `over` has eight cells for each row: its overlap with each earlier answer. `won` has the row of each answer.
-use crate::cells;
 use crate::chains;
 
 fn arcs_before(rows: &[usize], p: usize, q: usize) -> bool {
-    for j in 0..7 {
+    for j in 0..chains::MOST_ARCS {
         let x = chains::arc(rows, p, j);
         let y = chains::arc(rows, q, j);
         if x < y {
@@ -58,17 +57,13 @@ fn overlap(arcs: &[usize], rows: &[usize], q: usize, p: usize) -> usize {
 }
 
 fn over_at(over: &[usize], q: usize, e: usize) -> usize {
-    cells::get(over, cells::add(cells::eight(q), e))
+    cells::get(over, cells::place(q, 8, e))
 }
 
 // Fills each row's overlap with the answer of number e, row p.
 fn fill(arcs: &[usize], rows: &[usize], n: usize, p: usize, e: usize, over: &mut [usize]) {
     for q in 0..n {
-        cells::put(
-            over,
-            cells::add(cells::eight(q), e),
-            overlap(arcs, rows, q, p),
-        );
+        cells::put(over, cells::place(q, 8, e), overlap(arcs, rows, q, p));
     }
 }
 
@@ -247,7 +242,7 @@ fn turn(
 }
 
 // All rounds. Returns the outcome; the number of answers stands in cell 8 of counts.
-pub fn run(
+pub(crate) fn run(
     head: &[usize],
     arcs: &[usize],
     rows: &[usize],

@@ -1,5 +1,4 @@
 // The desk program's text. A position past every text, 4,294,967,296, stands for a line that is bad.
-use crate::cells;
 
 fn is_digit(b: u8) -> bool {
     if b < 48 { false } else { b < 58 }
@@ -27,7 +26,10 @@ fn digits(text: &[u8], at: usize) -> usize {
 fn number(text: &[u8], at: usize, d: usize) -> usize {
     let mut v: usize = 0;
     for i in 0..d {
-        v = cells::add(cells::ten(v), value(cells::byte(text, cells::add(at, i))));
+        v = cells::add(
+            cells::mul(v, 10),
+            value(cells::byte(text, cells::add(at, i))),
+        );
     }
     v
 }
@@ -81,7 +83,7 @@ fn line(text: &[u8], at: usize, count: usize, out: &mut [usize], to: usize) -> u
 fn arc_lines(text: &[u8], start: usize, m: usize, arcs: &mut [usize]) -> usize {
     let mut p = start;
     for i in 0..m {
-        p = line(text, p, 3, arcs, cells::three(i));
+        p = line(text, p, 3, arcs, cells::place(i, 4, 0));
         if p > 4000000000 {
             return cells::add(i, 2);
         }
@@ -93,7 +95,7 @@ fn arc_lines(text: &[u8], start: usize, m: usize, arcs: &mut [usize]) -> usize {
 }
 
 // Reads the whole text: the seven numbers of the first line to `head`, the arcs to `arcs`. Returns 0, or the number of the first bad line.
-pub fn read(text: &[u8], head: &mut [usize], arcs: &mut [usize]) -> usize {
+pub(crate) fn read(text: &[u8], head: &mut [usize], arcs: &mut [usize]) -> usize {
     let p = line(text, 0, 7, head, 0);
     if p > 4000000000 {
         return 1;

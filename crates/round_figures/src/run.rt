@@ -51,7 +51,7 @@ fn over_good(name: &[u8], t: &[u8], ask: Ask, k: u32, labels: &mut [u8], area: &
 }
 
 // The rounds of a query for k routes. One that is refused shows nothing.
-pub fn run(name: &[u8], t: &[u8], ask: Ask, k: u32, labels: &mut [u8], area: &mut [u32]) {
+pub(crate) fn run(name: &[u8], t: &[u8], ask: Ask, k: u32, labels: &mut [u8], area: &mut [u32]) {
     let nodes = ask.nodes;
     let c = table::fault::check(t, nodes);
     if let TableCheck::Good = c {

@@ -82,7 +82,7 @@ fn all_labels(name: &[u8], round: u64, b: &[u8], n: u64) {
 }
 
 // Round r, from 0: how it ended, and its labels as it left them.
-pub fn round(name: &[u8], r: usize, x: Progress, b: &[u8], slot: &[u32])
+pub(crate) fn round(name: &[u8], r: usize, x: Progress, b: &[u8], slot: &[u32])
     requires { ⌜ r < mostRoutes ⌝ }
 {
     let counts = x.labels;

@@ -1,9 +1,11 @@
 -- The road table of document 01: from bytes to arcs.
+use mathlib.Core.Bool.{cond}
 use mathlib.Core.List.{List}
 use Prim.Native.Nat.{ℕ, _+_, _*_, _/_}
+use lib.Dec.{ltb}
 use lib.ListN.{length}
 use Rattle.lists.specs.Index.{tab}
-use Rattle.words.specs.Number.{num}
+use Rattle.words.specs.Number.{num, put}
 use Rattle.net.specs.Net.{Arc, Net, plain}
 
 -- "Arc records are 16 bytes each, with no header"
@@ -36,3 +38,13 @@ arcsOf t = tab (records t) (arcAt t)
 -- "The number of nodes is given beside the table."
 abbrev pub netOf : ℕ → List ℕ → Net
 netOf nodes t = plain nodes (arcsOf t)
+
+-- The bytes with record i made of an arc; bytes 12 to 15 of the record stay.
+unfoldable pub putArc : List ℕ → ℕ → Arc → List ℕ
+unfolding put
+putArc t i x = put 4 (put 4 (put 4 t (i * recordBytes + 0) (x .from)) (i * recordBytes + 4) (x .to)) (i * recordBytes + 8) (x .len)
+
+-- The same, where there is such a record; else the bytes as they are.
+unfoldable pub withArc : List ℕ → ℕ → Arc → List ℕ
+unfolding putArc
+withArc t i x = cond (ltb i (records t)) (putArc t i x) t

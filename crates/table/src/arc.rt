@@ -1,7 +1,8 @@
-// The fields of an arc by its number.
+// The fields of an arc by its number, and an arc as a record.
 ghost use mathlib.Core.Path.{_≡_};
-ghost use Prim.Native.Nat.{_<_};
-ghost use Rattle.table.specs.Table.{records, fromAt, toAt, lenAt, zerosAt};
+ghost use Prim.Native.Nat.{_+_, _*_, _≤_, _<_};
+ghost use lib.ListN.{length};
+ghost use Rattle.table.specs.Table.{records, fromAt, toAt, lenAt, zerosAt, recordBytes, putArc, withArc};
 
 pub const RECORD: usize = 16;
 
@@ -39,4 +40,23 @@ pub fn zeros_of(t: &[u8], a: usize) -> u32
     ensures { λ r. ⌜ r ≡ zerosAt (now (t .entry)) a ⌝ }
 {
     words::number::read32(t, a * RECORD + ZEROS)
+}
+
+// An arc as record i. Bytes 12 to 15 of the record stay.
+pub fn write(t: &mut [u8], i: usize, from: u32, to: u32, len: u32)
+    requires { ⌜ i * recordBytes + recordBytes ≤ length (now t) ⌝ }
+    ensures { λ _. ⌜ now (t .exit) ≡ putArc (now (t .entry)) i (record { from = from; to = to; len = len }) ⌝ }
+{
+    words::number::write32(t, i * RECORD + FROM, from);
+    words::number::write32(t, i * RECORD + TO, to);
+    words::number::write32(t, i * RECORD + LENGTH, len);
+}
+
+// The same for any number: where there is no such record, nothing is written.
+pub fn put(t: &mut [u8], i: usize, from: u32, to: u32, len: u32)
+    ensures { λ _. ⌜ now (t .exit) ≡ withArc (now (t .entry)) i (record { from = from; to = to; len = len }) ⌝ }
+{
+    if i < t.len() / RECORD {
+        write(t, i, from, to, len);
+    }
 }

@@ -6,7 +6,7 @@ mod show;
 // "nodes: 1 to 4,096"
 fn nodes() {
     let mut t = [0u8; 16];
-    build::put_arc(&mut t, 0, 0, 1, 1);
+    table::arc::put(&mut t, 0, 0, 1, 1);
     show::outcome(b"nodes 0", &t, 0);
     show::outcome(b"nodes 2", &t, 2);
     show::outcome(b"nodes 4096", &t, 4096);
@@ -17,7 +17,7 @@ fn nodes() {
 // "arc length: 1 to 1,000,000"
 fn length(name: &[u8], len: u32) {
     let mut t = [0u8; 16];
-    build::put_arc(&mut t, 0, 0, 1, len);
+    table::arc::put(&mut t, 0, 0, 1, len);
     show::outcome(name, &t, 2);
 }
 
@@ -52,8 +52,8 @@ fn one_record_more() {
 // An arc that is good but for byte `at`.
 fn byte(name: &[u8], at: usize, v: u8) {
     let mut t = [0u8; 16];
-    build::put_arc(&mut t, 0, 0, 1, 1000000);
-    build::put_byte(&mut t, at, v);
+    table::arc::put(&mut t, 0, 0, 1, 1000000);
+    cells::put_byte(&mut t, at, v);
     show::outcome(name, &t, 4);
 }
 
@@ -72,9 +72,9 @@ fn fields() {
 // A good record and then one that has two faults.
 fn both(name: &[u8], from: u32, to: u32, len: u32, zero: u8) {
     let mut t = [0u8; 32];
-    build::put_arc(&mut t, 0, 1, 2, 1);
-    build::put_arc(&mut t, 1, from, to, len);
-    build::put_byte(&mut t, 28, zero);
+    table::arc::put(&mut t, 0, 1, 2, 1);
+    table::arc::put(&mut t, 1, from, to, len);
+    cells::put_byte(&mut t, 28, zero);
     show::outcome(name, &t, 4);
 }
 
@@ -89,9 +89,9 @@ fn two_faults() {
 // A record that is good but for byte 12, and then another.
 fn two(name: &[u8], zero: u8, from: u32, to: u32) {
     let mut t = [0u8; 32];
-    build::put_arc(&mut t, 0, 1, 2, 1);
-    build::put_byte(&mut t, 12, zero);
-    build::put_arc(&mut t, 1, from, to, 1);
+    table::arc::put(&mut t, 0, 1, 2, 1);
+    cells::put_byte(&mut t, 12, zero);
+    table::arc::put(&mut t, 1, from, to, 1);
     show::outcome(name, &t, 4);
 }
 
@@ -117,11 +117,11 @@ fn parts(t: &[u8]) {
 // "Table T"
 fn table_t() {
     let mut t = [0u8; 80];
-    build::put_arc(&mut t, 0, 0, 1, 2);
-    build::put_arc(&mut t, 1, 0, 2, 3);
-    build::put_arc(&mut t, 2, 1, 2, 1);
-    build::put_arc(&mut t, 3, 1, 3, 2);
-    build::put_arc(&mut t, 4, 2, 3, 2);
+    table::arc::put(&mut t, 0, 0, 1, 2);
+    table::arc::put(&mut t, 1, 0, 2, 3);
+    table::arc::put(&mut t, 2, 1, 2, 1);
+    table::arc::put(&mut t, 3, 1, 3, 2);
+    table::arc::put(&mut t, 4, 2, 3, 2);
     show::outcome(b"table T", &t, 4);
     parts(&t);
 }

@@ -26,7 +26,7 @@ fn number_of(c: TableCheck) -> u32 {
 }
 
 // The table's outcome, and the number beside it.
-pub fn outcome(name: &[u8], t: &[u8], nodes: u32) {
+pub(crate) fn outcome(name: &[u8], t: &[u8], nodes: u32) {
     let c = table::fault::check(t, nodes);
     io::write_all(1, name);
     io::write_all(1, b": ");
@@ -37,7 +37,7 @@ pub fn outcome(name: &[u8], t: &[u8], nodes: u32) {
 }
 
 // The number of bytes that hold the arcs of node v, and the end node of the first of them.
-pub fn part(name: &[u8], t: &[u8], nodes: u32, v: u32) {
+pub(crate) fn part(name: &[u8], t: &[u8], nodes: u32, v: u32) {
     let p = table::run::arcs_from(t, nodes, v);
     io::write_all(1, name);
     io::write_all(1, b": ");

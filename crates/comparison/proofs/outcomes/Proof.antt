@@ -1,4 +1,4 @@
--- `comparison::outcomes` is safe and ends: its loop counts up to its end.
+-- `comparison::outcomes` is safe and ends: its loop counts to its end.
 use borrow.Author.Needs.{needs}
 use Prim.Native.Nat.{_≤_, _-_}
 use Rattle.comparison.proofs.outcomes.Statement.{statement}

@@ -1,4 +1,4 @@
--- `comparison::refused_rounds` is safe and ends: its loop counts up to its end.
+-- `comparison::refused_rounds` is safe and ends: its loop counts to its end.
 use borrow.Author.Needs.{needs}
 use Prim.Native.Nat.{_≤_, _-_}
 use Rattle.comparison.proofs.refused_rounds.Statement.{statement}

@@ -15,17 +15,17 @@ line-requires c κs = search needs
 enum-known-x : tie.Need-enum-known-x
 enum-known-x c = search needs
 
-array-read-put-arc : tie.Need-array-read-put-arc
-array-read-put-arc c = search needs
+array-read-write : tie.Need-array-read-write
+array-read-write c = search needs
 
-array-read-put-arc-2 : tie.Need-array-read-put-arc-2
-array-read-put-arc-2 c = search needs
+array-read-write-2 : tie.Need-array-read-write-2
+array-read-write-2 c = search needs
 
-array-read-put-arc-3 : tie.Need-array-read-put-arc-3
-array-read-put-arc-3 c = search needs
+array-read-write-3 : tie.Need-array-read-write-3
+array-read-write-3 c = search needs
 
-put-arc-requires : tie.Need-put-arc-requires
-put-arc-requires c κs = search needs
+write-requires : tie.Need-write-requires
+write-requires c κs = search needs
 
 enum-told : tie.Need-enum-told
 enum-told c = search needs
@@ -38,7 +38,7 @@ returns c =
     let k = c .before .before .before .before .before in
     let r = k .before .before .before in
     let row = r .line .last .1 .1 .0 in
-    (search needs, (row, sym (r .line .ensures .1) ∙ ap (λ x. lineOf x row) (k .x .given .1), c .before .before .put-arc .ensures))
+    (search needs, (row, sym (r .line .ensures .1) ∙ ap (λ x. lineOf x row) (k .x .given .1), c .before .before .write .ensures))
 
 returns-2 : tie.Need-returns-2
 returns-2 c =
@@ -52,10 +52,10 @@ arc-spec =
     slice-aggregate-line
     line-requires
     enum-known-x
-    array-read-put-arc
-    array-read-put-arc-2
-    array-read-put-arc-3
-    put-arc-requires
+    array-read-write
+    array-read-write-2
+    array-read-write-3
+    write-requires
     enum-told
     same-length
     returns

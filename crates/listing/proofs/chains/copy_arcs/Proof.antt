@@ -1,4 +1,4 @@
--- `listing::chains::copy_arcs` is safe and ends: its loop counts up to its end, and keeps the length of each slice that it writes.
+-- `listing::chains::copy_arcs` is safe and ends: its loop counts to its end, and keeps the length of each slice that it writes.
 use borrow.Author.Needs.{needs}
 use Prim.Native.Nat.{_≤_, _-_}
 use mathlib.Core.Path.{_≡_}
@@ -7,28 +7,22 @@ use Rattle.listing.proofs.chains.copy_arcs.Statement.{statement}
 use Rattle.listing.proofs.chains.copy_arcs.Tie as tie
 
 abbrev Inv-loop : tie.InvT-loop
-Inv-loop rows₀ r to j₀ rows j = (j ≤ 10) × (length rows ≡ length rows₀)
+Inv-loop rows₀ r to j₀ rows j = (j ≤ 27) × (length rows ≡ length rows₀)
 
 abbrev μ-loop : tie.MeasureT-loop
-μ-loop rows₀ r to j₀ rows j = 10 - j
+μ-loop rows₀ r to j₀ rows j = 27 - j
 
 loop-holds : tie.Need-loop-holds Inv-loop μ-loop
 loop-holds c = search needs
 
-ten-requires : tie.Need-ten-requires Inv-loop μ-loop
-ten-requires c κs = search needs
-
-add-requires : tie.Need-add-requires Inv-loop μ-loop
-add-requires c κs = search needs
+place-requires : tie.Need-place-requires Inv-loop μ-loop
+place-requires c κs = search needs
 
 get-requires : tie.Need-get-requires Inv-loop μ-loop
 get-requires c κs = search needs
 
-ten-requires-2 : tie.Need-ten-requires-2 Inv-loop μ-loop
-ten-requires-2 c κs = search needs
-
-add-requires-2 : tie.Need-add-requires-2 Inv-loop μ-loop
-add-requires-2 c κs = search needs
+place-requires-2 : tie.Need-place-requires-2 Inv-loop μ-loop
+place-requires-2 c κs = search needs
 
 put-requires : tie.Need-put-requires Inv-loop μ-loop
 put-requires c κs = search needs
@@ -55,11 +49,9 @@ copy-arcs-spec =
     Inv-loop
     μ-loop
     loop-holds
-    ten-requires
-    add-requires
+    place-requires
     get-requires
-    ten-requires-2
-    add-requires-2
+    place-requires-2
     put-requires
     add-j
     loop-less

@@ -1,14 +1,14 @@
--- `listing::rounds::arcs_before` is safe and ends: its loop counts up to its end.
+-- `listing::rounds::arcs_before` is safe and ends: its loop counts to its end.
 use borrow.Author.Needs.{needs}
 use Prim.Native.Nat.{_≤_, _-_}
 use Rattle.listing.proofs.rounds.arcs_before.Statement.{statement}
 use Rattle.listing.proofs.rounds.arcs_before.Tie as tie
 
 abbrev Inv-loop : tie.InvT-loop
-Inv-loop rows p q j₀ j = j ≤ 7
+Inv-loop rows p q j₀ j = j ≤ 24
 
 abbrev μ-loop : tie.MeasureT-loop
-μ-loop rows p q j₀ j = 7 - j
+μ-loop rows p q j₀ j = 24 - j
 
 loop-holds : tie.Need-loop-holds Inv-loop μ-loop
 loop-holds c = search needs

@@ -1,4 +1,4 @@
--- `listing::rounds::fill` is safe and ends: its loop counts up to its end, and keeps the length of each slice that it writes.
+-- `listing::rounds::fill` is safe and ends: its loop counts to its end, and keeps the length of each slice that it writes.
 use borrow.Author.Needs.{needs}
 use Prim.Native.Nat.{_≤_, _-_}
 use mathlib.Core.Path.{_≡_}
@@ -15,11 +15,8 @@ abbrev μ-loop : tie.MeasureT-loop
 loop-holds : tie.Need-loop-holds Inv-loop μ-loop
 loop-holds c = search needs
 
-eight-requires : tie.Need-eight-requires Inv-loop μ-loop
-eight-requires c κs = search needs
-
-add-requires : tie.Need-add-requires Inv-loop μ-loop
-add-requires c κs = search needs
+place-requires : tie.Need-place-requires Inv-loop μ-loop
+place-requires c κs = search needs
 
 overlap-requires : tie.Need-overlap-requires Inv-loop μ-loop
 overlap-requires c κs = search needs
@@ -49,8 +46,7 @@ fill-spec =
     Inv-loop
     μ-loop
     loop-holds
-    eight-requires
-    add-requires
+    place-requires
     overlap-requires
     put-requires
     add-q

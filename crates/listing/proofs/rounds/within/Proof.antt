@@ -1,4 +1,4 @@
--- `listing::rounds::within` is safe and ends: its loop counts up to its end.
+-- `listing::rounds::within` is safe and ends: its loop counts to its end.
 use borrow.Author.Needs.{needs}
 use Prim.Native.Nat.{_≤_, _-_}
 use Rattle.listing.proofs.rounds.within.Statement.{statement}

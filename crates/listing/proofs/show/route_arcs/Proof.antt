@@ -1,14 +1,16 @@
--- `listing::show::route_arcs` is safe and ends: its loop counts up to its end.
+-- `listing::show::route_arcs` is safe and ends: its loop counts to its end, and keeps the length of each slice that it writes.
 use borrow.Author.Needs.{needs}
 use Prim.Native.Nat.{_≤_, _-_}
+use mathlib.Core.Path.{_≡_}
+use lib.ListN.{length}
 use Rattle.listing.proofs.show.route_arcs.Statement.{statement}
 use Rattle.listing.proofs.show.route_arcs.Tie as tie
 
 abbrev Inv-loop : tie.InvT-loop
-Inv-loop rows r n j₀ j = j ≤ n
+Inv-loop out₀ at rows r n p₀ j₀ out p j = (j ≤ n) × (length out ≡ length out₀)
 
 abbrev μ-loop : tie.MeasureT-loop
-μ-loop rows r n j₀ j = n - j
+μ-loop out₀ at rows r n p₀ j₀ out p j = n - j
 
 count-requires : tie.Need-count-requires Inv-loop μ-loop
 count-requires c κs = search needs
@@ -31,6 +33,9 @@ loop-less c = search needs
 loop-again : tie.Need-loop-again Inv-loop μ-loop
 loop-again c = search needs
 
+same-length : tie.Need-same-length Inv-loop μ-loop
+same-length c = search needs
+
 returns : tie.Need-returns Inv-loop μ-loop
 returns c = search needs
 
@@ -47,4 +52,5 @@ route-arcs-spec =
     add-j
     loop-less
     loop-again
+    same-length
     returns)

@@ -1,4 +1,4 @@
--- `listing::text::arc_lines` is safe and ends: its loop counts up to its end, and keeps the length of each slice that it writes.
+-- `listing::text::arc_lines` is safe and ends: its loop counts to its end, and keeps the length of each slice that it writes.
 use borrow.Author.Needs.{needs}
 use Prim.Native.Nat.{_≤_, _-_}
 use mathlib.Core.Path.{_≡_}
@@ -15,8 +15,8 @@ abbrev μ-loop : tie.MeasureT-loop
 loop-holds : tie.Need-loop-holds Inv-loop μ-loop
 loop-holds c = search needs
 
-three-requires : tie.Need-three-requires Inv-loop μ-loop
-three-requires c κs = search needs
+place-requires : tie.Need-place-requires Inv-loop μ-loop
+place-requires c κs = search needs
 
 line-requires : tie.Need-line-requires Inv-loop μ-loop
 line-requires c κs = search needs
@@ -61,7 +61,7 @@ arc-lines-spec =
     Inv-loop
     μ-loop
     loop-holds
-    three-requires
+    place-requires
     line-requires
     add-requires
     same-length

@@ -1,4 +1,4 @@
--- `listing::text::line` is safe and ends: its loop counts up to its end, and keeps the length of each slice that it writes.
+-- `listing::text::line` is safe and ends: its loop counts to its end, and keeps the length of each slice that it writes.
 use borrow.Author.Needs.{needs}
 use Prim.Native.Nat.{_≤_, _-_}
 use mathlib.Core.Path.{_≡_}

@@ -1,4 +1,4 @@
--- `listing::text::number` is safe and ends: its loop counts up to its end.
+-- `listing::text::number` is safe and ends: its loop counts to its end.
 use borrow.Author.Needs.{needs}
 use Prim.Native.Nat.{_≤_, _-_}
 use Rattle.listing.proofs.text.number.Statement.{statement}
@@ -13,8 +13,8 @@ abbrev μ-loop : tie.MeasureT-loop
 loop-holds : tie.Need-loop-holds Inv-loop μ-loop
 loop-holds c = search needs
 
-ten-requires : tie.Need-ten-requires Inv-loop μ-loop
-ten-requires c κs = search needs
+mul-requires : tie.Need-mul-requires Inv-loop μ-loop
+mul-requires c κs = search needs
 
 add-requires : tie.Need-add-requires Inv-loop μ-loop
 add-requires c κs = search needs
@@ -47,7 +47,7 @@ number-spec =
     Inv-loop
     μ-loop
     loop-holds
-    ten-requires
+    mul-requires
     add-requires
     byte-requires
     value-requires

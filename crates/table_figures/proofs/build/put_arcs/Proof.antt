@@ -15,8 +15,8 @@ abbrev μ-loop : tie.MeasureT-loop
 loop-holds : tie.Need-loop-holds Inv-loop μ-loop
 loop-holds c = search needs
 
-put-arc-requires : tie.Need-put-arc-requires Inv-loop μ-loop
-put-arc-requires c κs = search needs
+put-requires : tie.Need-put-requires Inv-loop μ-loop
+put-requires c κs = search needs
 
 add-i : tie.Need-add-i Inv-loop μ-loop
 add-i c = search needs
@@ -40,7 +40,7 @@ put-arcs-spec =
     Inv-loop
     μ-loop
     loop-holds
-    put-arc-requires
+    put-requires
     add-i
     loop-less
     loop-again

@@ -1,0 +1,240 @@
+// The library's answer to a case, in buffers that lie in junk.
+use query::Outcome;
+
+// Label bytes and words of the area that lie before what is lent, and what every byte and word holds beforehand.
+pub(crate) const LABELS_FROM: usize = 48;
+
+pub(crate) const AREA_FROM: usize = 8;
+
+pub(crate) const JUNK: u8 = 85;
+
+pub(crate) const JUNK_WORD: u32 = 7;
+
+// Every number of a case is far below the limit.
+fn narrow(x: usize) -> u32 {
+    if x < 4294967296 { x as u32 } else { 4294967295 }
+}
+
+fn number(head: &[usize], i: usize) -> u32 {
+    narrow(cells::get(head, i))
+}
+
+// Bytes 12 to 15 of record i. Past the table it does nothing.
+fn put_last(t: &mut [u8], i: usize, v: u32) {
+    if i < t.len() / table::arc::RECORD {
+        words::number::write32(t, i * table::arc::RECORD + 12, v);
+    }
+}
+
+fn put_arc(t: &mut [u8], arcs: &[usize], i: usize) {
+    table::arc::put(
+        t,
+        i,
+        number(arcs, cells::place(i, 4, 0)),
+        number(arcs, cells::place(i, 4, 1)),
+        number(arcs, cells::place(i, 4, 2)),
+    );
+    put_last(t, i, number(arcs, cells::place(i, 4, 3)));
+}
+
+fn put_arcs(t: &mut [u8], arcs: &[usize], m: usize) {
+    for i in 0..m {
+        put_arc(t, arcs, i);
+    }
+}
+
+fn outcome_of(o: Outcome) -> usize {
+    match o {
+        Outcome::Found => 0,
+        Outcome::Fewer => 1,
+        Outcome::Node(_) => 2,
+        Outcome::Loop(_) => 3,
+        Outcome::Length(_) => 4,
+        Outcome::Zeros(_) => 5,
+        Outcome::Order(_) => 6,
+        Outcome::Ends => 7,
+        Outcome::Routes => 8,
+        Outcome::Threshold => 9,
+        Outcome::Buffers => 10,
+        Outcome::Room(_) => 11,
+        Outcome::Size => 13,
+    }
+}
+
+fn number_of(o: Outcome) -> u32 {
+    match o {
+        Outcome::Found => 0,
+        Outcome::Fewer => 0,
+        Outcome::Node(i) => i,
+        Outcome::Loop(i) => i,
+        Outcome::Length(i) => i,
+        Outcome::Zeros(i) => i,
+        Outcome::Order(i) => i,
+        Outcome::Ends => 0,
+        Outcome::Routes => 0,
+        Outcome::Threshold => 0,
+        Outcome::Buffers => 0,
+        Outcome::Room(r) => r,
+        Outcome::Size => 0,
+    }
+}
+
+fn wide(x: u32) -> usize {
+    x as usize
+}
+
+fn put_told(told: &mut [usize], o: Outcome) {
+    cells::put(told, 0, outcome_of(o));
+    cells::put(told, 1, wide(number_of(o)));
+}
+
+fn put_summary(sums: &mut [usize], j: usize, length: u64, arcs: u64, labels: u64) {
+    cells::put(sums, cells::place(j, 3, 0), length as usize);
+    cells::put(sums, cells::place(j, 3, 1), arcs as usize);
+    cells::put(sums, cells::place(j, 3, 2), labels as usize);
+}
+
+fn put_rows(sums: &mut [usize], rows: [summary::Summary; 8]) {
+    for j in 0..8 {
+        let x = rows[j];
+        put_summary(sums, j, x.length, x.arcs, x.labels);
+    }
+}
+
+fn put_sums(sums: &mut [usize], s: summary::Sums, n: usize) {
+    let lengths = s.length;
+    let arcs = s.arcs;
+    let labels = s.labels;
+    if n <= 8 {
+        for j in 0..n {
+            put_summary(sums, j, lengths[j], arcs[j], labels[j]);
+        }
+    }
+}
+
+// The public call, over eight summaries.
+fn ask8(
+    head: &[usize],
+    t: &[u8],
+    labels: &mut [u8],
+    area: &mut [u32],
+    told: &mut [usize],
+    sums: &mut [usize],
+) {
+    let r = query::ask8(
+        t,
+        number(head, 0),
+        number(head, 2),
+        number(head, 3),
+        number(head, 4),
+        number(head, 5),
+        number(head, 6),
+        labels,
+        area,
+    );
+    let rows = r.sums;
+    let o = r.outcome;
+    put_rows(sums, rows);
+    put_told(told, o);
+}
+
+// Its core, for another number of summaries.
+fn core(
+    head: &[usize],
+    t: &[u8],
+    labels: &mut [u8],
+    area: &mut [u32],
+    told: &mut [usize],
+    sums: &mut [usize],
+) {
+    let g = query::core(
+        t,
+        number(head, 0),
+        number(head, 2),
+        number(head, 3),
+        number(head, 4),
+        number(head, 5),
+        number(head, 6),
+        labels,
+        area,
+        cells::get(head, 9),
+    );
+    let s = g.sums;
+    let n = g.n;
+    let o = g.outcome;
+    put_sums(sums, s, n);
+    put_told(told, o);
+}
+
+fn ask(
+    head: &[usize],
+    t: &[u8],
+    labels: &mut [u8],
+    area: &mut [u32],
+    told: &mut [usize],
+    sums: &mut [usize],
+) {
+    if cells::get(head, 9) == 8 {
+        ask8(head, t, labels, area, told, sums);
+    } else {
+        core(head, t, labels, area, told, sums);
+    }
+}
+
+// Where the lent part of the label buffer ends.
+pub(crate) fn labels_to(head: &[usize]) -> usize {
+    cells::add(
+        cells::place(cells::get(head, 7), 96, LABELS_FROM),
+        cells::get(head, 11),
+    )
+}
+
+pub(crate) fn area_to(head: &[usize]) -> usize {
+    cells::add(AREA_FROM, cells::get(head, 8))
+}
+
+fn lend(
+    head: &[usize],
+    t: &[u8],
+    labels: &mut [u8],
+    area: &mut [u32],
+    told: &mut [usize],
+    sums: &mut [usize],
+) {
+    let l = labels_to(head);
+    let e = area_to(head);
+    if LABELS_FROM <= l {
+        if l <= labels.len() {
+            if AREA_FROM <= e {
+                if e <= area.len() {
+                    ask(
+                        head,
+                        t,
+                        &mut labels[LABELS_FROM..l],
+                        &mut area[AREA_FROM..e],
+                        told,
+                        sums,
+                    );
+                }
+            }
+        }
+    }
+}
+
+// `told` gets the outcome and the number beside it, `sums` the summaries; the two buffers are lent but for some of their bytes at both ends.
+pub(crate) fn run(
+    head: &[usize],
+    arcs: &[usize],
+    labels: &mut [u8],
+    area: &mut [u32],
+    told: &mut [usize],
+    sums: &mut [usize],
+) {
+    let mut t = [0u8; 256];
+    let m = cells::get(head, 1);
+    let e = cells::place(m, table::arc::RECORD, cells::get(head, 10));
+    put_arcs(&mut t, arcs, m);
+    if e <= 256 {
+        lend(head, &t[0..e], labels, area, told, sums);
+    }
+}

@@ -1,0 +1,37 @@
+-- `listing::show::width` is safe and ends: its loop counts to its end.
+use borrow.Author.Needs.{needs}
+use Prim.Native.Nat.{_≤_, _-_}
+use Rattle.listing.proofs.show.width.Statement.{statement}
+use Rattle.listing.proofs.show.width.Tie as tie
+
+abbrev Inv-loop : tie.InvT-loop
+Inv-loop v i₀ i = i ≤ 12
+
+abbrev μ-loop : tie.MeasureT-loop
+μ-loop v i₀ i = 12 - i
+
+loop-holds : tie.Need-loop-holds Inv-loop μ-loop
+loop-holds c = search needs
+
+cut-requires : tie.Need-cut-requires Inv-loop μ-loop
+cut-requires c κs = search needs
+
+returns : tie.Need-returns Inv-loop μ-loop
+returns c = search needs
+
+add-i : tie.Need-add-i Inv-loop μ-loop
+add-i c = search needs
+
+loop-less : tie.Need-loop-less Inv-loop μ-loop
+loop-less c = search needs
+
+loop-again : tie.Need-loop-again Inv-loop μ-loop
+loop-again c = search needs
+
+returns-2 : tie.Need-returns-2 Inv-loop μ-loop
+returns-2 c = search needs
+
+pub width-spec : {M : Type 1} → statement M
+width-spec =
+    tie.close
+    (tie.spec Inv-loop μ-loop loop-holds cut-requires returns add-i loop-less loop-again returns-2)
