@@ -9,6 +9,7 @@ ghost use Rattle.summary.specs.Sums.{recordAt, written};
 pub const MOST_ROUTES: usize = 8;
 
 // Length, number of arcs and label count of one round.
+#[repr(C)]
 pub struct Summary {
     pub length: u64,
     pub arcs: u64,

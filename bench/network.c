@@ -1,0 +1,68 @@
+#include "network.h"
+
+#include <stdbool.h>
+#include <string.h>
+
+/* A number from 0 to n - 1: the generator adds a constant to the seed and mixes the bits of the sum (splitmix64). */
+static uint32_t draw(uint64_t *seed, uint32_t n)
+{
+    uint64_t z = *seed += 0x9e3779b97f4a7c15u;
+    z = (z ^ z >> 30) * 0xbf58476d1ce4e5b9u;
+    z = (z ^ z >> 27) * 0x94d049bb133111ebu;
+    z ^= z >> 31;
+    return (z >> 32) * n >> 32;
+}
+
+static void put(uint8_t *p, uint32_t v)
+{
+    for (int i = 0; i < 4; i++)
+        p[i] = v >> 8 * i;
+}
+
+static void add_arc(struct network *net, uint32_t start, uint32_t end, uint32_t length)
+{
+    uint8_t *record = net->table + net->bytes;
+    put(record, start);
+    put(record + 4, end);
+    put(record + 8, length);
+    put(record + 12, 0);
+    net->bytes += OJEONBUT_RECORD;
+}
+
+void network_make(struct network *net, uint32_t width, uint32_t height, uint32_t longest, uint64_t seed)
+{
+    bool east[OJEONBUT_NODES], south[OJEONBUT_NODES]; /* whether a street leads from the node to its neighbour there */
+    memset(net, 0, sizeof *net);
+    net->width = width;
+    net->height = height;
+    net->nodes = width * height;
+    for (uint32_t v = 0; v < net->nodes; v++) {
+        east[v] = draw(&seed, 10) > 0 && v % width < width - 1;
+        south[v] = draw(&seed, 10) > 0 && v / width < height - 1;
+    }
+    for (uint32_t v = 0; v < net->nodes; v++) {
+        if (v >= width && south[v - width])
+            add_arc(net, v, v - width, 1 + draw(&seed, longest));
+        if (v >= 1 && east[v - 1])
+            add_arc(net, v, v - 1, 1 + draw(&seed, longest));
+        if (east[v])
+            add_arc(net, v, v + 1, 1 + draw(&seed, longest));
+        if (south[v])
+            add_arc(net, v, v + width, 1 + draw(&seed, longest));
+    }
+}
+
+struct leg network_leg(const struct network *net, uint32_t across, uint32_t down, uint64_t *seed)
+{
+    uint32_t x = draw(seed, net->width - across), y = draw(seed, net->height - down);
+    uint32_t from_x = x, to_x = x + across, from_y = y, to_y = y + down;
+    if (draw(seed, 2)) {
+        from_x = x + across;
+        to_x = x;
+    }
+    if (draw(seed, 2)) {
+        from_y = y + down;
+        to_y = y;
+    }
+    return (struct leg){from_y * net->width + from_x, to_y * net->width + to_x};
+}

@@ -1,0 +1,28 @@
+/* A generated road network: a city of width x height nodes, numbered row by row, with streets between neighbours in both directions. About one street in ten
+ * is missing, in both directions together. Each direction of a street is an arc with a drawn length of its own, from 1 to `longest`. The same seed gives the
+ * same network everywhere. */
+#ifndef NETWORK_H
+#define NETWORK_H
+
+#include "ojeonbut.h"
+
+struct network {
+    uint32_t width, height;
+    uint32_t nodes;
+    size_t bytes;
+    uint8_t table[OJEONBUT_ARCS * OJEONBUT_RECORD];
+};
+
+/* From a start to a goal. */
+struct leg {
+    uint32_t start, goal;
+};
+
+/* width * height must not exceed OJEONBUT_NODES. */
+void network_make(struct network *net, uint32_t width, uint32_t height, uint32_t longest, uint64_t seed);
+
+/* A drawn leg whose ends are `across` blocks apart from east to west, in either direction, and `down` blocks from north to south; `across` must be below the
+ * width and `down` below the height. `seed` becomes that of the next leg. */
+struct leg network_leg(const struct network *net, uint32_t across, uint32_t down, uint64_t *seed);
+
+#endif

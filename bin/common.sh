@@ -1,0 +1,41 @@
+# What the commands share. $top is the project's folder.
+# Proved programs and the archive are for x86-64. Elsewhere C is compiled by Debian's cross compiler, and programs run under the kit's loader and emulator.
+top=$(cd "$(dirname "$0")/.." && pwd -P) || exit 2
+guide=$(rt doc) || exit 2
+tools=${guide%/docs/*}/on/$(uname -m)/toolchain
+archive=$top/target/staticlib/libojeonbut.a
+if [ "$(uname -m)" = x86_64 ]; then emulated=; cc=gcc; else emulated=1; cc=x86_64-linux-gnu-gcc; fi
+
+# Is $1 missing, or older than a source of a crate?
+stale() {
+    [ ! -e "$1" ] || [ -n "$(find "$top/crates" "$top/crates.txt" -newer "$1" \( -name '*.rt' -o -name '*.antt' -o -name crates.txt \) 2>/dev/null | head -n 1)" ]
+}
+
+# Runs a proved program, under the kit's loader.
+run_proved() {
+    emulator=$tools/bin/qemu-x86_64
+    [ -x "$emulator" ] || emulator=
+    ${emulator:+"$emulator"} "$tools/lib/ld-linux-x86-64.so.2" --library-path "$tools/lib" "$@"
+}
+
+# Runs a compiled C program.
+run_c() {
+    if [ -n "$emulated" ]; then run_proved "$@"; else "$@"; fi
+}
+
+# Proves and writes the archive where it is missing or old.
+need_archive() {
+    if stale "$archive"; then
+        (cd "$top" && rt staticlib ojeonbut) >&2 </dev/null || { echo "the archive is not proved: run 'rt check ojeonbut'" >&2; exit 1; }
+    fi
+}
+
+need_compiler() {
+    command -v "$cc" >/dev/null || { echo "$cc is not here: Debian's package gcc has it on x86-64, gcc-x86-64-linux-gnu elsewhere" >&2; exit 1; }
+}
+
+# compile PROGRAM SOURCE..: a C program over the archive.
+compile() {
+    program=$1; shift
+    "$cc" -std=gnu11 -O3 -Wall -Wextra -Werror -I "$top/include" -o "$program" "$@" "$archive" -lm || exit 1
+}

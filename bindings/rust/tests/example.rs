@@ -1,0 +1,44 @@
+//! The scope's example through the safe calls.
+use ojeonbut::{arcs_from, check, query, Reply, Summary};
+
+const NONE: u32 = u32::MAX;
+
+fn table() -> Vec<u8> {
+    let arcs: [[u32; 4]; 5] = [[0, 1, 2, 0], [0, 2, 3, 0], [1, 2, 1, 0], [1, 3, 2, 0], [2, 3, 2, 0]];
+    arcs.iter().flatten().flat_map(|v| v.to_le_bytes()).collect()
+}
+
+#[test]
+fn routes() {
+    let table = table();
+    let mut labels = vec![85u8; 512 * 96 + 5];
+    let mut area = [7u32; 13];
+    let mut summaries = [Summary { length: 7, arcs: 7, labels: 7 }; 5];
+    let r = query(&table, 4, 0, 3, 4, (1, 2), &mut labels, &mut area, &mut summaries);
+    assert_eq!(r, Reply { outcome: 1, number: 0 });
+    assert!(labels.iter().all(|&b| b == 0));
+    assert_eq!(area, [0, 3, NONE, 0, 2, 4, 1, 4, NONE, NONE, NONE, NONE, 7]);
+    let rows: Vec<_> = summaries.iter().map(|s| (s.length, s.arcs, s.labels)).collect();
+    assert_eq!(rows, [(4, 2, 4), (5, 3, 5), (5, 2, 4), (0, 0, 2), (7, 7, 7)]);
+}
+
+#[test]
+fn refusals_write_nothing() {
+    let table = table();
+    let mut labels = vec![85u8; 96];
+    let mut area = [7u32; 12];
+    let mut summaries = [Summary { length: 7, arcs: 7, labels: 7 }; 4];
+    let r = query(&table, 4, 0, 3, 4, (1, 1), &mut labels, &mut area, &mut summaries);
+    assert_eq!(r, Reply { outcome: 9, number: 0 });
+    assert!(labels.iter().all(|&b| b == 85) && area.iter().all(|&w| w == 7) && summaries.iter().all(|s| s.length == 7));
+}
+
+#[test]
+fn table_calls() {
+    let table = table();
+    assert_eq!(check(&table, 4), Reply { outcome: 0, number: 0 });
+    assert_eq!(check(&table, 3), Reply { outcome: 2, number: 3 });
+    assert_eq!(arcs_from(&table, 4, 1), &table[32..64]);
+    assert!(arcs_from(&table, 4, 3).is_empty() && arcs_from(&table, 3, 1).is_empty());
+    assert_eq!(check(&[], 0), Reply { outcome: 13, number: 0 });
+}

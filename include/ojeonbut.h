@@ -1,0 +1,87 @@
+/* Ojeonbut: the shortest routes that share no more road than a threshold permits.
+ *
+ * What the caller must ensure, for every call: each pointer is valid for the length given with it and not NULL, also where that length is 0, for
+ * writing where it is not const; no buffer that is written overlaps another buffer of the same call; nothing else changes any of them during the call;
+ * `area` and `summaries` are aligned for their types. Nothing else: any bytes, any numbers and any lengths are taken, and what is wrong is refused.
+ *
+ * The calls keep nothing between them, allocate nothing, and may run in several threads at once on different buffers. docs/FIGURES.md has the stack they need.
+ * Link libojeonbut.a, which is for x86-64 Linux. */
+#ifndef OJEONBUT_H
+#define OJEONBUT_H
+
+#include <stddef.h>
+#include <stdint.h>
+
+#ifdef __cplusplus
+extern "C" {
+#endif
+
+/* A road table: arc records of 16 bytes, little-endian: start node, end node, length, four zero bytes; 4 bytes each. Records stand in order of start node.
+ * An arc's number is its record's, from 0; a node's is below the node count. */
+#define OJEONBUT_RECORD 16      /* bytes of an arc record */
+#define OJEONBUT_NODES 4096     /* the most nodes; the least is 1 */
+#define OJEONBUT_ARCS 16384     /* the most arcs */
+#define OJEONBUT_LENGTH 1000000 /* the greatest length of an arc; the least is 1 */
+#define OJEONBUT_ROUTES 8       /* the most routes of a query; the least is 1 */
+#define OJEONBUT_LABEL 96       /* bytes of a label */
+#define OJEONBUT_LABELS 65535   /* the most whole labels that may be lent */
+#define OJEONBUT_NONE 4294967295u /* a word of a slot that holds no arc */
+
+/* The outcomes. `number` is what stands beside each in ojeonbut_reply; where none is named it is 0. */
+enum ojeonbut_outcome {
+    OJEONBUT_FOUND = 0,     /* all k routes found; from ojeonbut_check: the table has no fault */
+    OJEONBUT_FEWER = 1,     /* fewer than k routes exist; those there are were found */
+    OJEONBUT_NODE = 2,      /* a record names a node not below the node count; number: the record */
+    OJEONBUT_LOOP = 3,      /* a record starts and ends at one node; number: the record */
+    OJEONBUT_BAD_LENGTH = 4, /* a length is outside 1 to 1,000,000; number: the record */
+    OJEONBUT_ZEROS = 5,     /* bytes 12 to 15 of a record are not all zero; number: the record */
+    OJEONBUT_ORDER = 6,     /* a record's start node is below the one before it; number: the record */
+    OJEONBUT_ENDS = 7,      /* start or goal not below the node count, or equal */
+    OJEONBUT_WANTED = 8,    /* k outside 1 to 8 */
+    OJEONBUT_THRESHOLD = 9, /* b outside 1 to 1,000, or a not below b */
+    OJEONBUT_BUFFERS = 10,  /* area under k * (nodes - 1) words, fewer than k summaries, or over 65,535 whole labels */
+    OJEONBUT_ROOM = 11,     /* a round needs more labels than were lent; number: the round, from 1 */
+    OJEONBUT_SIZE = 13      /* node count outside 1 to 4,096, table bytes not a multiple of 16, or over 16,384 records */
+};
+
+typedef struct ojeonbut_reply {
+    uint32_t outcome; /* an enum ojeonbut_outcome */
+    uint32_t number;
+} ojeonbut_reply;
+
+/* A part of a table: the place of its first byte in the table, and its number of bytes. */
+typedef struct ojeonbut_part {
+    size_t place;
+    size_t bytes;
+} ojeonbut_part;
+
+/* One round: the answer's length and number of arcs, and the round's label count. */
+typedef struct ojeonbut_summary {
+    uint64_t length;
+    uint64_t arcs;
+    uint64_t labels;
+} ojeonbut_summary;
+
+/* Outcome 13, or the lowest of 2 to 6 in the lowest faulty record, or 0. Writes nothing. */
+ojeonbut_reply ojeonbut_check(const uint8_t *table, size_t table_bytes, uint32_t nodes);
+
+/* Where the records of the arcs that leave `node` stand in the table; { 0, 0 } where the table has a fault or `node` is not below `nodes`. Writes nothing. */
+ojeonbut_part ojeonbut_arcs_from(const uint8_t *table, size_t table_bytes, uint32_t nodes, uint32_t node);
+
+/* The query: k routes from start to goal, each the shortest whose overlap with every earlier one is at most a/b of that one's length.
+ * Checks come in the order 13, the records (2 to 6), 7, 8, 9, 10; then the rounds.
+ *
+ * After a refusal (2 to 10 and 13) no byte of any buffer is changed. After 0, 1 or 11:
+ *   labels     every byte is zero. The room is label_bytes / 96 labels.
+ *   area       slot r (from 0) is words r * (nodes - 1) up to (r + 1) * (nodes - 1): the arc numbers of round r + 1's answer in order, then OJEONBUT_NONE; all
+ *              words of a slot without an answer are OJEONBUT_NONE. Words after the k-th slot are untouched.
+ *   summaries  the first k: length, arcs and label count of each round; a round without an answer has 0, 0 and its count, under 11 the refused one has 0, 0 and
+ *              the room; rounds not begun have three zeros. Summaries after the k-th are untouched. */
+ojeonbut_reply ojeonbut_query(const uint8_t *table, size_t table_bytes, uint32_t nodes, uint32_t start, uint32_t goal, uint32_t k, uint32_t a, uint32_t b,
+                              uint8_t *labels, size_t label_bytes, uint32_t *area, size_t area_words, ojeonbut_summary *summaries, size_t summary_count);
+
+#ifdef __cplusplus
+}
+#endif
+
+#endif
