@@ -27,7 +27,7 @@ extern "C" {
 #define OJEONBUT_LABELS 65535   /* the most whole labels that may be lent */
 #define OJEONBUT_NONE 4294967295u /* a word of a slot that holds no arc */
 
-/* The outcomes. `number` is what stands beside each in ojeonbut_reply; where none is named it is 0. */
+/* The outcomes. `number` is what stands beside each in ojeonbut_reply; where none is named it is 0. 12 is the desk program's, for malformed text: no call gives it. */
 enum ojeonbut_outcome {
     OJEONBUT_FOUND = 0,     /* all k routes found; from ojeonbut_check: the table has no fault */
     OJEONBUT_FEWER = 1,     /* fewer than k routes exist; those there are were found */

@@ -31,8 +31,8 @@ use Rattle.query.proofs.SumsLaws.{getD-firsts}
 use Rattle.query.proofs.FinishLaws.{rounds-few}
 use Rattle.query.proofs.DecideLaws.{Passed, passed}
 use Rattle.query.proofs.Promises.{reached}
-use Rattle.desk_text.specs.Desk.{refusedText, endText, replyText}
-use Rattle.desk_text.specs.Print.{Shows, Small, endLines}
+use Rattle.desk_text.specs.Desk.{refusedText, endLines, endText, replyText}
+use Rattle.desk_text.specs.Print.{Shows, Small}
 use Rattle.output.specs.Line.{Appended}
 use Rattle.desk_text.specs.Shown.{Gave, Known, KnownEnd, Shown, ShownEnd}
 use Rattle.desk_text.proofs.ShapeLaws.{rounds-shape, answers-short}
@@ -118,7 +118,7 @@ unfolding replyText
 reply-refused i x e n = ap refusedText e ∙ sym (ap (λ b. cond b (endText i) (refusedText (tellsDue i))) (reached-by i x e ∙ n))
 
 pub reply-end : (i : Input) (x : Told) → x ≡ tellsDue i → ofRounds (x .outcome) ≡ true → endLines (queryOf i) (x .outcome) (roundsOf i) ≡ replyText i
-unfolding replyText endText endLines
+unfolding replyText endText
 reply-end i x e n =
     ap (λ y. endLines (queryOf i) (y .outcome) (roundsOf i)) e ∙ sym (ap (λ b. cond b (endText i) (refusedText (tellsDue i))) (reached-by i x e ∙ n))
 

@@ -24,9 +24,9 @@ use Rattle.query.specs.Area.{slots, areaWith}
 use Rattle.query.specs.Query.{asRecord}
 use Rattle.output.specs.Line.{routeText}
 use Rattle.query.proofs.SumsLaws.{getD-firsts}
-use Rattle.desk_text.specs.Desk.{roundsText}
-use Rattle.desk_text.specs.Print.{Shape, Shows, endLines}
-use Rattle.desk_text.specs.Lines.{headText, noneText, lineAt, linesFrom, Leading}
+use Rattle.desk_text.specs.Desk.{roundsText, headText, noneText, endLines}
+use Rattle.desk_text.specs.Print.{Shape, Shows}
+use Rattle.desk_text.specs.Lines.{lineAt, linesFrom, Leading}
 use Rattle.desk_text.proofs.TextLaws.{lines-none, lines-first}
 
 -- ---- the records
@@ -212,8 +212,8 @@ module _ (q : Query) (rs : List Ending) (w k : ℕ) (sums : Sums) (area : List �
   due = lines-of q w sums area k 0 n rs start
 
   split : (o : ℕ) → endLines q o rs ≡ headText o (length (answers rs)) ++ roundsText q 1 rs
-  unfolding endLines headText
-  split o = simp append-assoc
+  unfolding endLines
+  split o = refl
 
   -- every round was answered
   pub end-full : (o : ℕ) → n ≡ k → endLines q o rs ≡ headText o n ++ linesFrom sums w area n 0

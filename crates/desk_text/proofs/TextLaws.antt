@@ -15,14 +15,14 @@ use Rattle.summary.specs.declared.Summary.{Summary}
 use Rattle.summary.specs.declared.Sums.{Sums}
 use Rattle.summary.specs.Sums.{recordAt}
 use Rattle.output.proofs.TextLaws.{route-length}
-use Rattle.desk_text.specs.Desk.{refusedWord, endWord, routesWord, noneWord, refusedText}
-use Rattle.desk_text.specs.Lines.{hasNumber, besideText, headText, noneText, lineAt, linesFrom}
+use Rattle.desk_text.specs.Desk.{refusedWord, endWord, routesWord, noneWord, hasNumber, besideText, refusedText, headText, noneText}
+use Rattle.desk_text.specs.Lines.{lineAt, linesFrom}
 use Rattle.output.proofs.AppendLaws.{appended-more}
 
 -- ---- the parts of each text, one after the other
 
 pub refused-parts : (o n : ℕ) → refusedWord ++ decimal o ++ besideText o n ++ (newline ∷ []) ≡ refusedText (record { outcome = o; number = n })
-unfolding refusedText besideText hasNumber
+unfolding refusedText
 refused-parts o n = simp append-assoc
 
 pub head-parts : (o n : ℕ) → endWord ++ decimal o ++ routesWord ++ decimal n ++ (newline ∷ []) ≡ headText o n

@@ -1,5 +1,5 @@
 -- The desk program: from the text that it reads to the text that it prints (document 01).
-use mathlib.Core.Bool.{_&&_, _||_, cond}
+use mathlib.Core.Bool.{Bool, _&&_, _||_, cond}
 use mathlib.Core.List.{List, [], _∷_, _++_}
 use Prim.Native.Nat.{ℕ, suc, _+_, _*_}
 use lib.Dec.{leb, eqb}
@@ -27,26 +27,46 @@ routesWord = 32 ∷ 114 ∷ 111 ∷ 117 ∷ 116 ∷ 101 ∷ 115 ∷ 32 ∷ []
 abbrev pub noneWord : List ℕ
 noneWord = 110 ∷ 111 ∷ 110 ∷ 101 ∷ 32 ∷ []
 
+-- "for 2 to 6 the record or for 12 the line": whether a number is printed beside the outcome, and the space and the number.
+unfoldable pub hasNumber : ℕ → Bool
+hasNumber o = (leb 2 o && leb o 6) || eqb o 12
+
+unfoldable pub besideText : ℕ → ℕ → List ℕ
+unfolding decimal hasNumber
+besideText o n = cond (hasNumber o) (32 ∷ decimal n) []
+
 -- "It prints `refused`, the number, and for 2 to 6 the record or for 12 the line."
 unfoldable pub refusedText : Told → List ℕ
+unfolding decimal besideText
+refusedText x = refusedWord ++ (decimal (x .outcome) ++ (besideText (x .outcome) (x .number) ++ (newline ∷ [])))
+
+-- "`none` and its label count"
+unfoldable pub noneText : ℕ → List ℕ
 unfolding decimal
-refusedText x =
-    refusedWord ++ (decimal (x .outcome) ++ (cond ((leb 2 (x .outcome) && leb (x .outcome) 6) || eqb (x .outcome) 12) (32 ∷ decimal (x .number)) [] ++ (newline ∷ [])))
+noneText n = noneWord ++ (decimal n ++ (newline ∷ []))
 
 -- "then a line for each route with round, length, label count and arc numbers; then, if the last round has no answer, `none` and its label count. Under 11 that round is
 -- the refused one, and the count is the room." The rounds from number j on.
 unfoldable pub roundsText : Query → ℕ → List Ending → List ℕ
-unfolding routeText lengthOf decimal
+unfolding routeText lengthOf noneText
 roundsText q j [] = []
 roundsText q j (answered p n ∷ rs) = routeText j (lengthOf (q .net) p) n p ++ roundsText q (j + 1) rs
-roundsText q j (unanswered n ∷ rs) = noneWord ++ (decimal n ++ (newline ∷ []))
-roundsText q j (refused ∷ rs) = noneWord ++ (decimal (q .room) ++ (newline ∷ []))
+roundsText q j (unanswered n ∷ rs) = noneText n
+roundsText q j (refused ∷ rs) = noneText (q .room)
 
--- "Otherwise `end`, the outcome, `routes` and how many"
+-- "`end`, the outcome, `routes` and how many"
+unfoldable pub headText : ℕ → ℕ → List ℕ
+unfolding decimal
+headText o n = endWord ++ (decimal o ++ (routesWord ++ (decimal n ++ (newline ∷ []))))
+
+-- "Otherwise `end`, the outcome, `routes` and how many; then a line for each route": of the outcome o and the rounds rs.
+unfoldable pub endLines : Query → ℕ → List Ending → List ℕ
+unfolding headText roundsText answers
+endLines q o rs = headText o (length (answers rs)) ++ roundsText q 1 rs
+
 unfoldable pub endText : Input → List ℕ
-unfolding decimal roundsText answers tellsDue
-endText i =
-    endWord ++ (decimal (tellsDue i .outcome) ++ (routesWord ++ (decimal (length (answers (roundsOf i))) ++ ((newline ∷ []) ++ roundsText (queryOf i) 1 (roundsOf i)))))
+unfolding endLines tellsDue
+endText i = endLines (queryOf i) (tellsDue i .outcome) (roundsOf i)
 
 unfoldable pub replyText : Input → List ℕ
 unfolding endText refusedText reaches

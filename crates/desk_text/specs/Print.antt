@@ -1,17 +1,16 @@
 -- What is printed of rounds that were made.
 use mathlib.Core.Path.{_≡_}
-use mathlib.Core.List.{List, [], _∷_, _++_, map, List·Memᴰ}
+use mathlib.Core.List.{List, [], _∷_, map, List·Memᴰ}
 use Prim.Native.Nat.{ℕ, zero, suc, _*_, _≤_, _<_}
 use lib.ListN.{length, getD}
 use Rattle.net.specs.Round.{Query, Ending, answered, unanswered, refused}
 use Rattle.net.specs.Outcome.{answers, summaries}
-use Rattle.numerals.specs.Decimal.{decimal}
-use Rattle.output.specs.Line.{Appended, newline}
+use Rattle.output.specs.Line.{Appended}
 use Rattle.summary.specs.declared.Sums.{Sums}
 use Rattle.summary.specs.Sums.{firsts}
 use Rattle.query.specs.Area.{areaWith}
 use Rattle.query.specs.Query.{asRecord}
-use Rattle.desk_text.specs.Desk.{endWord, routesWord, roundsText}
+use Rattle.desk_text.specs.Desk.{endLines}
 
 -- The rounds of a query for k routes: answered ones, each with an arc at least, and then, short of k, one that was not.
 abbrev pub Shape : ℕ → List Ending → Type 0
@@ -31,11 +30,6 @@ pub record Shows (q : Query) (rs : List Ending) (w k : ℕ) (sums : Sums) (area 
   pub area₀ : List ℕ
   pub slotted : area ≡ areaWith w k area₀ (answers rs)
   pub short : (p : List ℕ) → List·Memᴰ p (answers rs) → length p ≤ w
-
--- `end`, the outcome, `routes`, how many, and the rounds' lines.
-unfoldable pub endLines : Query → ℕ → List Ending → List ℕ
-unfolding decimal roundsText answers
-endLines q o rs = endWord ++ (decimal o ++ (routesWord ++ (decimal (length (answers rs)) ++ ((newline ∷ []) ++ roundsText q 1 rs))))
 
 -- No route has more arcs than a slot has words.
 abbrev pub Small : Sums → ℕ → ℕ → Type 0

@@ -6,8 +6,7 @@ use Prim.Native.Nat.{ℕ}
 use Rattle.output.specs.Line.{Appended}
 use Rattle.query.specs.Query.{Input, queryOf, roundsOf, reaches, Cored}
 use Rattle.query.specs.declared.Got.{Got}
-use Rattle.desk_text.specs.Desk.{replyText}
-use Rattle.desk_text.specs.Print.{endLines}
+use Rattle.desk_text.specs.Desk.{replyText, endLines}
 
 -- The query of an input for k routes among so many nodes gave g, and left the area so.
 pub record Gave (i : Input) (g : Got) (n m : ℕ) (area : List ℕ) : Type 0 where

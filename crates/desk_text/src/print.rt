@@ -3,10 +3,10 @@ ghost use mathlib.Core.Path.{_≡_};
 ghost use Prim.Native.Nat.{_+_, _*_, _≤_};
 ghost use lib.ListN.{length};
 ghost use Rattle.output.specs.Line.{Appended};
-ghost use Rattle.desk_text.specs.Desk.{refusedText};
+ghost use Rattle.desk_text.specs.Desk.{hasNumber, besideText, refusedText, headText, noneText};
 ghost use Rattle.desk_text.specs.Written.{mostText};
 ghost use Rattle.desk_text.specs.Print.{Small, Printed};
-ghost use Rattle.desk_text.specs.Lines.{hasNumber, besideText, headText, noneText, linesFrom, Leading};
+ghost use Rattle.desk_text.specs.Lines.{linesFrom, Leading};
 
 // Whether a number stands beside the outcome.
 fn has_number(outcome: u32) -> bool

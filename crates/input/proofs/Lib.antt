@@ -1,3 +1,4 @@
 pub mod LineLaws
 pub mod ArcsLaws
 pub mod SaidLaws
+pub mod CutLaws

@@ -1,3 +1,4 @@
 pub mod DecimalLaws
 pub mod ReadLaws
 pub mod WriteLaws
+pub mod CutLaws

@@ -1,7 +1,7 @@
 -- Each arm's tests are the definition's, in the same order.
 use native.Mathlib.Omega.{arith}
 use borrow.Author.Tests.{le-leb, lt-leb, ne-eqb}
-use Rattle.desk_text.specs.Lines.{hasNumber}
+use Rattle.desk_text.specs.Desk.{hasNumber}
 use Rattle.desk_text.proofs.print.has_number.Statement.{statement}
 use Rattle.desk_text.proofs.print.has_number.Tie as tie
 
