@@ -1,4 +1,4 @@
-// Queries and tables from a generator: its state is cell 0 of `seed`.
+// Queries and tables from a generator: its state is cell 0 of `seed`, and cell 1 counts the thresholds that come in turn.
 
 fn next(x: usize) -> usize {
     let y = x % 2147483648;
@@ -48,7 +48,17 @@ fn routes(seed: &mut [usize]) -> usize {
     }
 }
 
-fn denominator(seed: &mut [usize]) -> usize {
+// The next of the thresholds 0/1000 to 999/1000, in turn.
+fn next_of_thousand(seed: &mut [usize]) -> usize {
+    let n = cells::get(seed, 1);
+    cells::put(seed, 1, cells::add(n, 1));
+    rest(n, 1000)
+}
+
+fn denominator(seed: &mut [usize], in_turn: bool) -> usize {
+    if in_turn {
+        return 1000;
+    }
     if once_in(seed, 60) {
         return cells::mul(below(seed, 2), 1001);
     }
@@ -59,7 +69,10 @@ fn denominator(seed: &mut [usize]) -> usize {
     }
 }
 
-fn numerator(seed: &mut [usize], b: usize) -> usize {
+fn numerator(seed: &mut [usize], in_turn: bool, b: usize) -> usize {
+    if in_turn {
+        return next_of_thousand(seed);
+    }
     if once_in(seed, 60) {
         return b;
     }
@@ -103,9 +116,10 @@ fn ends(seed: &mut [usize], head: &mut [usize]) {
 
 // k, a, b and the room.
 fn limits(seed: &mut [usize], head: &mut [usize]) {
-    let b = denominator(seed);
+    let in_turn = once_in(seed, 3);
+    let b = denominator(seed, in_turn);
     cells::put(head, 4, routes(seed));
-    cells::put(head, 5, numerator(seed, b));
+    cells::put(head, 5, numerator(seed, in_turn, b));
     cells::put(head, 6, b);
     cells::put(head, 7, room(seed));
 }

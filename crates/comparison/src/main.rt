@@ -87,7 +87,7 @@ fn damaged() {
 
 fn main() {
     let mut tally = [0usize; 33];
-    let mut seed = [1usize; 1];
+    let mut seed = [1usize; 2];
     all(&mut seed, &mut tally);
     line(b"agreed, of ", CASES, cells::get(&tally, 32));
     outcomes(&tally);

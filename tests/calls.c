@@ -1,0 +1,210 @@
+/* The archive's three calls on drawn small tables and queries, right and spoilt, in buffers that lie in junk. Each outcome, and every byte that is to be zero, filled or
+ * untouched, is held against the baseline's answer and against the refusals written out here. Prints how many calls there were and how often each outcome occurred; exits 1
+ * where one differs, and prints the first that does. */
+#include "baseline.h"
+
+#include <stdbool.h>
+#include <stdio.h>
+#include <string.h>
+
+enum { CASES = 20000, NODES = 8, ARCS = 16, ROOM = 40, AROUND = 3, JUNK = 0xa5 };
+
+struct query {
+    uint8_t table[(ARCS + 1) * OJEONBUT_RECORD];
+    size_t table_bytes, label_bytes, area_words, summary_count;
+    uint32_t nodes, start, goal, k, a, b;
+};
+
+struct lent {
+    _Alignas(16) uint8_t labels[(AROUND + ROOM + 1 + AROUND) * OJEONBUT_LABEL];
+    uint32_t area[AROUND + OJEONBUT_ROUTES * NODES + AROUND];
+    ojeonbut_summary summaries[AROUND + OJEONBUT_ROUTES + 2 + AROUND];
+};
+
+static uint64_t state = 1;
+
+/* A number below n. */
+static uint32_t draw(uint32_t n)
+{
+    state = state * 6364136223846793005u + 1442695040888963407u;
+    return (uint32_t)((state >> 33) % n);
+}
+
+static uint32_t word(const uint8_t *p) { return p[0] | (uint32_t)p[1] << 8 | (uint32_t)p[2] << 16 | (uint32_t)p[3] << 24; }
+
+static void put(uint8_t *p, uint32_t v)
+{
+    for (int i = 0; i < 4; i++)
+        p[i] = (uint8_t)(v >> 8 * i);
+}
+
+/* A query that no refusal is due to, of few nodes and short lengths, so that ties and parallel arcs are common. */
+static struct query draw_query(void)
+{
+    struct query q = {.nodes = 2 + draw(NODES - 1), .k = 1 + draw(OJEONBUT_ROUTES)};
+    uint32_t arcs = draw(ARCS + 1), from = 0;
+    q.b = 1 + draw(draw(2) ? 5 : 1000);
+    q.a = draw(3) ? draw(q.b) : q.b - 1;
+    q.start = draw(q.nodes);
+    q.goal = (q.start + 1 + draw(q.nodes - 1)) % q.nodes;
+    for (uint32_t i = 0; i < arcs; i++) {
+        uint8_t *record = q.table + i * OJEONBUT_RECORD;
+        if (draw(2) && from + 1 < q.nodes)
+            from++;
+        put(record, from);
+        put(record + 4, (from + 1 + draw(q.nodes - 1)) % q.nodes);
+        put(record + 8, 1 + draw(4));
+    }
+    q.table_bytes = arcs * OJEONBUT_RECORD;
+    q.label_bytes = draw(ROOM + 1) * OJEONBUT_LABEL + draw(OJEONBUT_LABEL);
+    q.area_words = q.k * (q.nodes - 1) + draw(4);
+    q.summary_count = q.k + draw(3);
+    return q;
+}
+
+/* One thing made wrong, or nothing. */
+static void spoil(struct query *q)
+{
+    uint8_t *record = q->table + draw(ARCS) * OJEONBUT_RECORD;
+    switch (draw(20)) {
+    case 0: put(record + 4 * draw(2), draw(2) ? q->nodes : 0xffffffff); break;
+    case 1: put(record + 4, word(record)); break;
+    case 2: put(record + 8, draw(2) ? 0 : OJEONBUT_LENGTH + 1); break;
+    case 3: record[12 + draw(4)] = (uint8_t)(1 + draw(255)); break;
+    case 4: put(record, 0); break;
+    case 5: q->start = draw(2) ? q->goal : q->nodes; break;
+    case 6: q->goal = draw(2) ? q->nodes : 0xffffffff; break;
+    case 7: q->k = draw(2) ? 0 : OJEONBUT_ROUTES + 1; break;
+    case 8: q->a = q->b; break;
+    case 9: q->b = draw(2) ? 0 : 1001; break;
+    case 10: q->area_words = q->k * (q->nodes - 1) - 1; break;
+    case 11: q->summary_count = q->k - 1; break;
+    case 12: q->nodes = draw(2) ? 0 : OJEONBUT_NODES + 1; break;
+    case 13: q->table_bytes += 1 + draw(15); break;
+    default: break;
+    }
+}
+
+/* 13, or the lowest of 2 to 6 in the lowest faulty record. */
+static ojeonbut_reply table_fault(const struct query *q)
+{
+    if (q->nodes < 1 || q->nodes > OJEONBUT_NODES || q->table_bytes % OJEONBUT_RECORD)
+        return (ojeonbut_reply){OJEONBUT_SIZE, 0};
+    for (uint32_t i = 0, before = 0; i < q->table_bytes / OJEONBUT_RECORD; i++) {
+        const uint8_t *record = q->table + i * OJEONBUT_RECORD;
+        uint32_t from = word(record), to = word(record + 4), length = word(record + 8);
+        uint32_t fault = from >= q->nodes || to >= q->nodes                ? OJEONBUT_NODE
+                         : from == to                                      ? OJEONBUT_LOOP
+                         : length < 1 || length > OJEONBUT_LENGTH          ? OJEONBUT_BAD_LENGTH
+                         : word(record + 12)                               ? OJEONBUT_ZEROS
+                         : from < before                                   ? OJEONBUT_ORDER
+                                                                           : 0;
+        if (fault)
+            return (ojeonbut_reply){fault, i};
+        before = from;
+    }
+    return (ojeonbut_reply){OJEONBUT_FOUND, 0};
+}
+
+/* The refusal due to a query, or outcome 0. */
+static ojeonbut_reply refusal(const struct query *q)
+{
+    ojeonbut_reply r = table_fault(q);
+    if (r.outcome)
+        return r;
+    if (q->start >= q->nodes || q->goal >= q->nodes || q->start == q->goal)
+        r.outcome = OJEONBUT_ENDS;
+    else if (q->k < 1 || q->k > OJEONBUT_ROUTES)
+        r.outcome = OJEONBUT_WANTED;
+    else if (q->b < 1 || q->b > 1000 || q->a >= q->b)
+        r.outcome = OJEONBUT_THRESHOLD;
+    else if (q->area_words < q->k * (q->nodes - 1) || q->summary_count < q->k || q->label_bytes / OJEONBUT_LABEL > OJEONBUT_LABELS)
+        r.outcome = OJEONBUT_BUFFERS;
+    return r;
+}
+
+typedef ojeonbut_reply query_call(const uint8_t *, size_t, uint32_t, uint32_t, uint32_t, uint32_t, uint32_t, uint32_t, uint8_t *, size_t, uint32_t *, size_t,
+                                  ojeonbut_summary *, size_t);
+
+static ojeonbut_reply ask(query_call *call, const struct query *q, struct lent *m)
+{
+    return call(q->table, q->table_bytes, q->nodes, q->start, q->goal, q->k, q->a, q->b, m->labels + AROUND * OJEONBUT_LABEL, q->label_bytes, m->area + AROUND,
+                q->area_words, m->summaries + AROUND, q->summary_count);
+}
+
+static bool query_as_due(const struct query *q, ojeonbut_reply *got)
+{
+    static struct lent due, found;
+    memset(&due, JUNK, sizeof due);
+    memset(&found, JUNK, sizeof found);
+    ojeonbut_reply r = refusal(q);
+    if (!r.outcome) {
+        r = ask(baseline_query, q, &due);
+        memset(due.labels, JUNK, sizeof due.labels);
+        memset(due.labels + AROUND * OJEONBUT_LABEL, 0, q->label_bytes);
+    }
+    *got = ask(ojeonbut_query, q, &found);
+    return got->outcome == r.outcome && got->number == r.number && memcmp(&due, &found, sizeof due) == 0;
+}
+
+/* The fault of the table, and the part of each node: exactly the records that start there. */
+static bool table_as_due(const struct query *q)
+{
+    ojeonbut_reply due = table_fault(q), got = ojeonbut_check(q->table, q->table_bytes, q->nodes);
+    if (got.outcome != due.outcome || got.number != due.number)
+        return false;
+    for (uint32_t v = 0; v < NODES + 2; v++) {
+        ojeonbut_part part = ojeonbut_arcs_from(q->table, q->table_bytes, q->nodes, v);
+        size_t first = 0, end = 0;
+        if (!due.outcome && v < q->nodes) {
+            while (first < q->table_bytes && word(q->table + first) < v)
+                first += OJEONBUT_RECORD;
+            for (end = first; end < q->table_bytes && word(q->table + end) == v;)
+                end += OJEONBUT_RECORD;
+        }
+        if (part.place != first || part.bytes != end - first)
+            return false;
+    }
+    return true;
+}
+
+static void print_query(const struct query *q, ojeonbut_reply r)
+{
+    printf("the first difference: %u nodes, start %u, goal %u, k %u, threshold %u/%u, %zu label bytes, %zu words, %zu summaries, %zu table bytes; got %u %u\n", q->nodes,
+           q->start, q->goal, q->k, q->a, q->b, q->label_bytes, q->area_words, q->summary_count, q->table_bytes, r.outcome, r.number);
+    for (size_t i = 0; i < q->table_bytes / OJEONBUT_RECORD; i++)
+        printf("  arc %zu: %u %u %u %u\n", i, word(q->table + i * OJEONBUT_RECORD), word(q->table + i * OJEONBUT_RECORD + 4), word(q->table + i * OJEONBUT_RECORD + 8),
+               word(q->table + i * OJEONBUT_RECORD + 12));
+}
+
+/* One label more than may be lent is 10, and as many are not. */
+static bool limit_as_due(void)
+{
+    static uint8_t labels[(OJEONBUT_LABELS + 1) * (size_t)OJEONBUT_LABEL];
+    static const uint8_t table[OJEONBUT_RECORD] = {0, 0, 0, 0, 1, 0, 0, 0, 7};
+    uint32_t area[1];
+    ojeonbut_summary s[1];
+    ojeonbut_reply over = ojeonbut_query(table, sizeof table, 2, 0, 1, 1, 0, 1, labels, sizeof labels, area, 1, s, 1);
+    ojeonbut_reply most = ojeonbut_query(table, sizeof table, 2, 0, 1, 1, 0, 1, labels, sizeof labels - 1, area, 1, s, 1);
+    return over.outcome == OJEONBUT_BUFFERS && most.outcome == OJEONBUT_FOUND && area[0] == 0 && s[0].length == 7 && s[0].arcs == 1 && s[0].labels == 2;
+}
+
+int main(void)
+{
+    uint32_t as_due = 0, outcomes[OJEONBUT_SIZE + 1] = {0};
+    for (uint32_t i = 0; i < CASES; i++) {
+        struct query q = draw_query();
+        ojeonbut_reply r;
+        spoil(&q);
+        if (query_as_due(&q, &r) && table_as_due(&q))
+            as_due++;
+        else if (as_due == i)
+            print_query(&q, r);
+        outcomes[r.outcome <= OJEONBUT_SIZE ? r.outcome : 12]++;
+    }
+    bool limit = limit_as_due();
+    printf("drawn calls %d, as due %u; the limit of labels %s\noutcomes:", CASES, as_due, limit ? "as due" : "NOT as due");
+    for (int i = 0; i <= OJEONBUT_SIZE; i++)
+        printf(" %d in %u%s", i, outcomes[i], i < OJEONBUT_SIZE ? "," : "\n");
+    return as_due == CASES && limit ? 0 : 1;
+}
