@@ -37,5 +37,5 @@ need_compiler() {
 # compile PROGRAM SOURCE..: a C program over the archive.
 compile() {
     program=$1; shift
-    "$cc" -std=gnu11 -O3 -Wall -Wextra -Werror -I "$top/include" -o "$program" "$@" "$archive" -lm || exit 1
+    "$cc" -std=gnu11 -O3 -Wall -Wextra -I "$top/include" -o "$program" "$@" "$archive" -lm || exit 1
 }
