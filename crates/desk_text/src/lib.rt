@@ -1,5 +1,5 @@
 // The desk program's work, from text to text.
-pub mod print;
+mod print;
 
 use query::Got;
 use query::Outcome;

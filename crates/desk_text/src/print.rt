@@ -34,7 +34,7 @@ fn beside(out: &mut [u8], at: usize, outcome: u32, number: u32) -> usize
 }
 
 // `refused`, the outcome, and for 2 to 6 and 12 the number beside it.
-pub fn refused(out: &mut [u8], outcome: u32, number: u32) -> usize
+pub(crate) fn refused(out: &mut [u8], outcome: u32, number: u32) -> usize
     requires { ⌜ mostText ≤ length (now out) ⌝ }
     ensures { λ r. ⌜ Appended (now (out .entry)) 0 (refusedText (record { outcome = outcome; number = number })) (now (out .exit)) r ⌝ }
 {
@@ -110,7 +110,7 @@ fn none(out: &mut [u8], at: usize, labels: u64) -> usize
 }
 
 // `end`, the outcome, `routes` and how many, and a line for each round of a query for k routes, whose slots of w words stand in the area.
-pub fn ended(
+pub(crate) fn ended(
     out: &mut [u8],
     outcome: u32,
     k: usize,

@@ -28,7 +28,7 @@ fn spaced(out: &mut [u8], at: usize, v: u64) -> usize
 }
 
 // A space and a number, for each of the numbers.
-pub fn numbers(out: &mut [u8], at: usize, vs: &[u32]) -> usize
+fn numbers(out: &mut [u8], at: usize, vs: &[u32]) -> usize
     requires { ⌜ at + length (now vs) * 21 ≤ length (now out) ⌝ }
     ensures { λ r. ⌜ Appended (now (out .entry)) at (numbersText (now (vs .entry))) (now (out .exit)) r ⌝ }
 {

@@ -105,7 +105,14 @@ fn over_good(t: &[u8], ask: Ask, k: u32, labels: &mut [u8], area: &mut [u32], le
 }
 
 // The query. `lent` is the number of summaries lent.
-pub fn decide(t: &[u8], ask: Ask, k: u32, labels: &mut [u8], area: &mut [u32], lent: usize) -> Got
+pub(crate) fn decide(
+    t: &[u8],
+    ask: Ask,
+    k: u32,
+    labels: &mut [u8],
+    area: &mut [u32],
+    lent: usize,
+) -> Got
     ensures { λ g. ⌜ Cored (record { table = now (t .entry); ask = ask; k = k; labels = now (labels .entry); area = now (area .entry); lent = lent }) g (now (labels .exit)) (now (area .exit)) ⌝ }
 {
     let nodes = ask.nodes;

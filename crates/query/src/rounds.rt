@@ -133,7 +133,7 @@ fn finish(x: Progress, k: usize) -> Got
 }
 
 // All rounds of a query for k routes: the slots are blank at first, and the labels are cleared at the end.
-pub fn all(t: &[u8], ask: Ask, k: usize, labels: &mut [u8], area: &mut [u32]) -> Got
+pub(crate) fn all(t: &[u8], ask: Ask, k: usize, labels: &mut [u8], area: &mut [u32]) -> Got
     requires { ⌜ (Accepted ask (now t)) × (roomIn (now labels) ≤ mostLabels) × (1 ≤ k) × (k ≤ mostRoutes) × (k * (ask .nodes - 1) ≤ length (now area)) ⌝ }
     ensures { λ g. ⌜ Finished (queryFor ask (now (t .entry)) (now (labels .entry))) (ask .nodes - 1) k (now (labels .entry)) (now (area .entry)) g (now (labels .exit)) (now (area .exit)) ⌝ }
 {
