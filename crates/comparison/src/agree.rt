@@ -32,15 +32,19 @@ pub(crate) fn label_differs(head: &[usize], outcome: usize, labels: &[u8]) -> us
 }
 
 // Word i of the area, where `slots` has `most` words.
-pub(crate) fn word_due(reached: bool, slots: &[usize], most: usize, i: usize) -> usize {
+fn word_due(reached: bool, slots: &[usize], most: usize, i: usize) -> usize {
     if !reached {
-        return 7;
+        return wide(library::JUNK_WORD);
     }
     if i < library::AREA_FROM {
-        return 7;
+        return wide(library::JUNK_WORD);
     }
     let at = i - library::AREA_FROM;
-    if at < most { cells::get(slots, at) } else { 7 }
+    if at < most {
+        cells::get(slots, at)
+    } else {
+        wide(library::JUNK_WORD)
+    }
 }
 
 fn wide(x: u32) -> usize {
@@ -60,7 +64,7 @@ pub(crate) fn word_differs(head: &[usize], outcome: usize, slots: &[usize], area
 }
 
 // The first cell in which two rows differ, or how many there are.
-pub(crate) fn cell_differs(due: &[usize], got: &[usize]) -> usize {
+fn cell_differs(due: &[usize], got: &[usize]) -> usize {
     for i in 0..due.len() {
         if cells::get(due, i) != cells::get(got, i) {
             return i;

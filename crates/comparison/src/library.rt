@@ -189,7 +189,7 @@ pub(crate) fn labels_to(head: &[usize]) -> usize {
     )
 }
 
-pub(crate) fn area_to(head: &[usize]) -> usize {
+fn area_to(head: &[usize]) -> usize {
     cells::add(AREA_FROM, cells::get(head, 8))
 }
 

@@ -92,5 +92,10 @@ fn main() {
     line(b"agreed, of ", CASES, cells::get(&tally, 32));
     outcomes(&tally);
     refused_rounds(&tally);
+    line(
+        b"thresholds in turn, of ",
+        1000,
+        cells::less_one(cells::get(&seed, 1)),
+    );
     damaged();
 }
