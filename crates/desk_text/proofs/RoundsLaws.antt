@@ -8,7 +8,7 @@ use Prim.Native.Nat.{ℕ, zero, suc, _+_, _-_, _*_, _≤_, _<_}
 use native.Mathlib.Nat.{add-zero, suc-mul}
 use native.Mathlib.Numerals.{add-one}
 use native.Mathlib.Omega.{arith}
-use lib.ListN.{length, getD, take, drop, replicate}
+use lib.ListN.{length, getD, take, drop, replicate, List·getD-map}
 use lib.Seq.{take-at, drop-at, drop-drop}
 use Rattle.lists.proofs.Cases.{order}
 use Rattle.net.specs.Route.{lengthOf}
@@ -30,11 +30,6 @@ use Rattle.desk_text.specs.Lines.{lineAt, linesFrom, Leading}
 use Rattle.desk_text.proofs.TextLaws.{lines-none, lines-first}
 
 -- ---- the records
-
-getD-map : {A B : Type 0} (f : A → B) (xs : List A) (j : ℕ) (d : A) → getD (map f xs) j (f d) ≡ f (getD xs j d)
-getD-map f [] j d = refl
-getD-map f (x ∷ xs) zero d = refl
-getD-map f (x ∷ xs) (suc j) d = getD-map f xs j d
 
 -- the leading records with arcs, one more
 pub each-more : (xs : List ℕ) (j : ℕ) → ((i : ℕ) → i < j → 1 ≤ getD xs i 0) → (getD xs j 0 ≡ 0 → ⊥) → (i : ℕ) → i < j + 1 → 1 ≤ getD xs i 0
@@ -194,7 +189,7 @@ module _ (q : Query) (rs : List Ending) (w k : ℕ) (sums : Sums) (area : List �
     shape = s .shape;
     records = λ j h.
         let e : 0 + j ≡ j = omega arith in
-        rw e (sym (getD-firsts sums k j (asRecord notBegun) h) ∙ ap (λ x. getD x j (asRecord notBegun)) (s .summed) ∙ getD-map asRecord (summaries q k rs) j notBegun);
+        rw e (sym (getD-firsts sums k j (asRecord notBegun) h) ∙ ap (λ x. getD x j (asRecord notBegun)) (s .summed) ∙ List·getD-map asRecord (summaries q k rs) j notBegun);
     slotted =
         let e : 0 * w ≡ 0 = omega arith in
         rw e (s .slotted);

@@ -1,7 +1,7 @@
 -- The desk program: from the text that it reads to the text that it prints (document 01).
 use mathlib.Core.Bool.{Bool, _&&_, _||_, cond}
 use mathlib.Core.List.{List, [], _∷_, _++_}
-use Prim.Native.Nat.{ℕ, suc, _+_, _*_}
+use Prim.Native.Nat.{ℕ, _+_, _*_}
 use lib.Dec.{leb, eqb}
 use lib.ListN.{length, getD, take, replicate}
 use Rattle.net.specs.Net.{Arc}
