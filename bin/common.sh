@@ -4,7 +4,15 @@ top=$(cd "$(dirname "$0")/.." && pwd -P) || exit 2
 guide=$(rt doc) || exit 2
 tools=${guide%/docs/*}/on/$(uname -m)/toolchain
 archive=$top/target/staticlib/libojeonbut.a
-if [ "$(uname -m)" = x86_64 ]; then emulated=; cc=gcc; else emulated=1; cc=x86_64-linux-gnu-gcc; fi
+if [ "$(uname -m)" = x86_64 ]; then
+    emulated=
+    cc=gcc
+else
+    emulated=1
+    cc=x86_64-linux-gnu-gcc
+    # The emulator goes byte by byte through the C library's `rep stosb`: let it fill memory otherwise.
+    export GLIBC_TUNABLES=glibc.cpu.x86_rep_stosb_threshold=1000000000
+fi
 
 # Is $1 missing, or older than a source of a crate?
 stale() {

@@ -7,7 +7,8 @@ fn show(out: &[u8], n: usize) {
     }
 }
 
-// A well-formed text has at most 135,245 bytes (a first line of 77, and 4,096 lines of 33), so what lies past the buffer changes no answer (`desk-cut`).
+// A well-formed text has at most 135,245 bytes (a first line of 77, and 4,096 lines of 33), so what
+// lies past the buffer changes no answer (`desk-cut`).
 fn main() {
     let mut text = [0u8; 262144];
     let n = io::read_full(0, &mut text);

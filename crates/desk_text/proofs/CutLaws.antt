@@ -4,7 +4,7 @@ use mathlib.Core.Path.{_≡_, ap}
 use mathlib.Core.List.{List}
 use Prim.Native.Nat.{ℕ, _≤_}
 use lib.ListN.{length, take}
-use Rattle.input.proofs.CutLaws.{said-cut}
+use Rattle.desk_input.proofs.CutLaws.{said-cut}
 use Rattle.desk_text.specs.Desk.{textFor, deskText}
 
 pub desk-cut : (c : ℕ) (text : List ℕ) → 135246 ≤ c → c ≤ length text → deskText (take c text) ≡ deskText text

@@ -15,15 +15,15 @@ use Rattle.net.specs.Route.{lengthOf}
 use Rattle.net.specs.Round.{Query, Ending, answered, unanswered, refused}
 use Rattle.net.specs.Outcome.{summary, summaries, notBegun, answers}
 use Rattle.labels.specs.Field.{noNumber}
-use Rattle.round.specs.Round.{slotOf}
+use Rattle.labels.specs.Chain.{slotOf}
 use Rattle.round.proofs.EarlierLaws.{length-slotOf}
 use Rattle.summary.specs.declared.Summary.{Summary}
 use Rattle.summary.specs.declared.Sums.{Sums}
 use Rattle.summary.specs.Sums.{recordAt}
-use Rattle.query.specs.Area.{slots, areaWith}
-use Rattle.query.specs.Query.{asRecord}
-use Rattle.output.specs.Line.{routeText}
-use Rattle.query.proofs.SumsLaws.{getD-firsts}
+use Rattle.query_rounds.specs.Area.{slots, areaWith}
+use Rattle.query_rounds.specs.Progress.{asRecord}
+use Rattle.desk_output.specs.Line.{routeText}
+use Rattle.query_rounds.proofs.SumsLaws.{getD-firsts}
 use Rattle.desk_text.specs.Desk.{roundsText, headText, noneText, endLines}
 use Rattle.desk_text.specs.Print.{Shape, Shows}
 use Rattle.desk_text.specs.Lines.{lineAt, linesFrom, Leading}
@@ -44,7 +44,6 @@ each-more xs j h ne i g =
 -- ---- a slot
 
 slot-is : (w : ℕ) (p : List ℕ) → slotOf w p ≡ p ++ replicate (w - length p) noNumber
-unfolding slotOf
 slot-is w p = refl
 
 take-slot : (w : ℕ) (p x : List ℕ) → take (length p) (slotOf w p ++ x) ≡ p
@@ -59,7 +58,7 @@ unfolding lineAt
 line-parts sums w area i = refl
 
 rounds-first : (q : Query) (j : ℕ) (p : List ℕ) (c : ℕ) (rs : List Ending)
-    → roundsText q j (answered p c ∷ rs) ≡ routeText j (lengthOf (q .net) p) c p ++ roundsText q (j + 1) rs
+    → roundsText q j (answered p c ∷ rs) ≡ routeText j (lengthOf (q .net .arcs) p) c p ++ roundsText q (j + 1) rs
 unfolding roundsText
 rounds-first q j p c rs = refl
 
@@ -138,13 +137,13 @@ module _ (q : Query) (w : ℕ) (sums : Sums) (area : List ℕ) where
           rw e (f .stop (omega arith));
     }
 
-    told : recordAt sums i ≡ record { length = lengthOf (q .net) p; arcs = length p; labels = c }
+    told : recordAt sums i ≡ record { length = lengthOf (q .net .arcs) p; arcs = length p; labels = c }
     unfolding summary
     told = first k i (suc n) (answered p c) rs f
 
-    line-is : lineAt sums w area i ≡ routeText (i + 1) (lengthOf (q .net) p) c p
+    line-is : lineAt sums w area i ≡ routeText (i + 1) (lengthOf (q .net .arcs) p) c p
     line-is =
-        let l : getD (sums .length) i 0 ≡ lengthOf (q .net) p = ap (λ (x : Summary). x .length) told in
+        let l : getD (sums .length) i 0 ≡ lengthOf (q .net .arcs) p = ap (λ (x : Summary). x .length) told in
         let a : getD (sums .arcs) i 0 ≡ length p = ap (λ (x : Summary). x .arcs) told in
         let b : getD (sums .labels) i 0 ≡ c = ap (λ (x : Summary). x .labels) told in
         let t : take (getD (sums .arcs) i 0) (drop (i * w) area) ≡ p = rw (a, slot-first) (take-slot w p (slots w k (answers rs) ++ f .rest)) in

@@ -3,7 +3,7 @@
 use mathlib.Core.Path.{_≡_, refl, sym, ap, ap₂, subst, _∙_}
 use mathlib.Core.Logic.{_≢_}
 use mathlib.Core.Bool.{Bool, true, false, _||_, cond}
-use mathlib.Core.List.{List, []}
+use mathlib.Core.List.{List, [], _∷_}
 use mathlib.Core.Option.{Option, none, some}
 use Prim.Native.Nat.{ℕ, zero, suc, _+_, _-_, _*_, _≤_}
 use native.Mathlib.Nat.{sub-zero}
@@ -12,12 +12,14 @@ use borrow.Author.Tests.{ltb-false}
 use lib.Dec.{ltb, eqb}
 use lib.ListN.{length, getD, take, replicate, length-replicate}
 use Rattle.net.specs.Net.{Arc}
-use Rattle.input.specs.Text.{Row, ArcLines, all, bad, withArc, withRow, arcIn, after, lineFrom, arcsFrom, Said, asks, malformed, withArcs, withHeader, said, mostNodesRead, mostArcsRead}
-use Rattle.input.specs.Parsed.{textRead, TextRead}
-use Rattle.input.specs.declared.Asked.{Asked}
-use Rattle.output.specs.Line.{Appended}
-use Rattle.query.specs.Query.{Input, input}
-use Rattle.desk_text.specs.Desk.{refusedText, replyText, tableOf, asked, textFor, deskText}
+use Rattle.desk_input.specs.Text.{Row, ArcLines, all, bad, withArc, withRow, arcIn, after, lineFrom, arcsFrom, Said, asks, malformed, withArcs, withHeader, said, mostNodesRead, mostArcsRead}
+use Rattle.desk_input.specs.Parsed.{textRead, TextRead}
+use Rattle.desk_input.specs.declared.Asked.{Asked}
+use Rattle.desk_output.specs.Line.{Appended}
+use Rattle.outcome.specs.Outcome.{beside}
+use Rattle.table.specs.Table.{recordBytes, tableOf}
+use Rattle.table.proofs.TableLaws.{table-put}
+use Rattle.desk_text.specs.Desk.{refusedText, replyText, readQuery, asked, textFor, deskText}
 
 -- the number of a malformed arc line is not below the first one's
 abbrev From : ℕ → ArcLines → Type 0
@@ -84,39 +86,43 @@ room n = omega (arith, length-replicate {A = ℕ} n 0)
 pub appended-as : (out text due out′ : List ℕ) (n : ℕ) → text ≡ due → Appended out 0 text out′ n → Appended out 0 due out′ n
 appended-as out text due out′ n e h = subst (λ l. Appended out 0 l out′ n) e h
 
-pub desk-malformed : (text : List ℕ) (x : Asked) (l l′ : List ℕ) → TextRead text x l l′ → x .line ≢ 0 → refusedText (record { outcome = 12; number = x .line }) ≡ deskText text
+pub desk-malformed : (text : List ℕ) (x : Asked) (l l′ : List ℕ) → TextRead text x l l′ → x .line ≢ 0 → refusedText (beside Rattle.outcome.specs.Outcome.text (x .line)) ≡ deskText text
 unfolding deskText textFor
 desk-malformed text x l l′ r h = go (said text) (r .is)
   where
-    go : (s : Said) → textRead s x l l′ → refusedText (record { outcome = 12; number = x .line }) ≡ textFor s
+    go : (s : Said) → textRead s x l l′ → refusedText (beside Rattle.outcome.specs.Outcome.text (x .line)) ≡ textFor s
     go (asks vs xs) w = absurd (h (w .0))
-    go (malformed n) w = ap (λ m. refusedText (record { outcome = 12; number = m })) w
+    go (malformed n) w = ap (λ m. refusedText (beside Rattle.outcome.specs.Outcome.text m)) w
 
--- the query that was read, over the table's part that has its arcs
-abbrev readQuery : Asked → List ℕ → Input
-readQuery x t = input t (x .nodes) (x .s) (x .goal) (x .k) (x .a) (x .b) (replicate 49152 0) (replicate 8184 0) 8
+-- a record that was read of the numbers vs
+same : (x : Asked) (vs : List ℕ) (xs : List Arc) → x .line ≡ 0 → vs ≡ x .nodes ∷ x .arcs ∷ x .s ∷ x .goal ∷ x .k ∷ x .a ∷ x .b ∷ []
+    → replyText (readQuery x (tableOf xs)) ≡ replyText (asked vs xs)
+same x vs xs z e = rw e
 
 pub record Asking (text : List ℕ) (x : Asked) (l : List ℕ) : Type 0 where
-  pub few : x .nodes ≤ 1024
-  pub long : x .arcs * 16 ≤ length l
-  pub due : replyText (readQuery x (take (x .arcs * 16 - 0) l)) ≡ deskText text
+  pub few : x .nodes ≤ mostNodesRead
+  pub long : x .arcs * recordBytes ≤ length l
+  pub due : replyText (readQuery x (take (x .arcs * recordBytes - 0) l)) ≡ deskText text
 
-pub asking : (text : List ℕ) (x : Asked) (l : List ℕ) → TextRead text x (replicate 65536 0) l → x .line ≡ 0 → Asking text x l
-unfolding deskText textFor asked tableOf
+-- a table of as many records as arcs may be read
+abbrev deskTable : List ℕ
+deskTable = replicate (mostArcsRead * recordBytes) 0
+
+pub asking : (text : List ℕ) (x : Asked) (l : List ℕ) → TextRead text x deskTable l → x .line ≡ 0 → Asking text x l
+unfolding deskText textFor
 asking text x l r h = go (said text) refl (sayable text) (r .is)
   where
-    n : x .arcs * 16 - 0 ≡ x .arcs * 16
-    n = sub-zero (x .arcs * 16)
+    size : length l ≡ mostArcsRead * recordBytes
+    size = r .long ∙ length-replicate {A = ℕ} (mostArcsRead * recordBytes) 0
 
-    size : length l ≡ 65536
-    size = r .long ∙ length-replicate {A = ℕ} 65536 0
-
-    go : (s : Said) → said text ≡ s → Sayable s → textRead s x (replicate 65536 0) l → Asking text x l
+    go : (s : Said) → said text ≡ s → Sayable s → textRead s x deskTable l → Asking text x l
     go (malformed m) e k w = absurd (omega arith)
     go (asks vs xs) e k w =
         let v : (getD vs 0 0 ≡ x .nodes) × (getD vs 1 0 ≡ x .arcs) = (ap (λ ys. getD ys 0 0) (w .1), ap (λ ys. getD ys 1 0) (w .1)) in
+        let table : take (x .arcs * recordBytes - 0) l ≡ tableOf xs =
+        ap₂ take (sub-zero (x .arcs * recordBytes) ∙ ap (λ m. m * recordBytes) (sym (w .2))) (w .3) ∙ table-put xs (mostArcsRead * recordBytes) (omega (arith, k .1, v .1, w .2)) in
         record {
           few = omega (arith, k .0, v .0);
           long = omega (arith, k .1, v .1, size);
-          due = ap (λ t. replyText (readQuery x t)) (ap₂ take (n ∙ ap (λ m. m * 16) (sym (w .2))) (w .3)) ∙ ap (λ ys. replyText (asked ys xs)) (sym (w .1)) ∙ ap textFor (sym e);
+          due = ap (λ t. replyText (readQuery x t)) table ∙ same x vs xs (w .0) (w .1) ∙ ap textFor (sym e);
         }

@@ -5,9 +5,9 @@ use mathlib.Core.List.{List, [], _∷_, _++_, List·Memᴰ, List·Memᴰ·head, 
 use Prim.Native.Nat.{ℕ, zero, suc, _-_, _≤_, _<_}
 use native.Mathlib.Omega.{arith}
 use lib.ListN.{length}
-use Rattle.net.specs.Route.{endOf}
+use Rattle.net.specs.Route.{endOf, lengthOf}
 use Rattle.net.specs.Round.{Query, Ending, answered, unanswered, refused, ending}
-use Rattle.net.specs.Outcome.{goOn, rounds, answers}
+use Rattle.net.specs.Outcome.{goOn, roundsBy, rounds, answers}
 use Rattle.net.proofs.Valid.{Valid}
 use Rattle.net.proofs.Answer.{answer-some}
 use Rattle.net.proofs.Ends.{ending-answered}
@@ -18,11 +18,11 @@ use Rattle.desk_text.specs.Print.{Shape}
 module _ (q : Query) (v : Valid q) (apart : q .s ≡ q .t → ⊥) where
   answered-some : (earlier : List (List ℕ)) (p : List ℕ) (n : ℕ) → ending q earlier ≡ answered p n → 1 ≤ length p
   unfolding endOf
-  answered-some earlier [] n e = absurd (apart (answer-some q earlier v [] (ending-answered q earlier v [] n e .0) .is-eligible .ends))
+  answered-some earlier [] n e = absurd (apart (answer-some q earlier v [] (ending-answered q earlier v (lengthOf (q .net .arcs)) [] n e .0) .is-eligible .ends))
   answered-some earlier (a ∷ p) n e = omega arith
 
   pub rounds-shape : (k : ℕ) (earlier : List (List ℕ)) → Shape k (rounds q k earlier)
-  unfolding rounds goOn
+  unfolding roundsBy goOn
   rounds-shape zero earlier = tt
   rounds-shape (suc k) earlier = go (ending q earlier) refl (λ p. rounds-shape k (earlier ++ (p ∷ [])))
     where
@@ -33,7 +33,7 @@ module _ (q : Query) (v : Valid q) (apart : q .s ≡ q .t → ⊥) where
 
 module _ (q : Query) (v : Valid q) (few : length (q .net .arcs) < noNumber) where
   pub answers-short : (k : ℕ) (earlier : List (List ℕ)) (p : List ℕ) → List·Memᴰ p (answers (rounds q k earlier)) → length p ≤ q .net .nodes - 1
-  unfolding rounds goOn answers
+  unfolding roundsBy goOn answers
   answers-short (suc k) earlier p m = go (ending q earlier) refl (λ w. answers-short k (earlier ++ (w ∷ [])) p) m
     where
       go : (z : Ending) → ending q earlier ≡ z → ((w : List ℕ) → List·Memᴰ p (answers (rounds q k (earlier ++ (w ∷ [])))) → length p ≤ q .net .nodes - 1)

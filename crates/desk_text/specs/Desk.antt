@@ -1,17 +1,22 @@
 -- The desk program: from the text that it reads to the text that it prints (document 01).
 use mathlib.Core.Bool.{Bool, _&&_, _||_, cond}
 use mathlib.Core.List.{List, [], _∷_, _++_}
-use Prim.Native.Nat.{ℕ, _+_, _*_}
+use Prim.Native.Nat.{ℕ, _+_, _-_, _*_}
 use lib.Dec.{leb, eqb}
-use lib.ListN.{length, getD, take, replicate}
+use lib.ListN.{length, getD, replicate}
 use Rattle.net.specs.Net.{Arc}
+use Rattle.net.specs.Limits.{mostRoutes}
 use Rattle.net.specs.Route.{lengthOf}
 use Rattle.net.specs.Round.{Query, Ending, answered, unanswered, refused}
-use Rattle.net.specs.Outcome.{Told, answers}
+use Rattle.outcome.specs.declared.Told.{Told}
+use Rattle.outcome.specs.Outcome.{node, order, text, beside}
+use Rattle.net.specs.Outcome.{answers}
+use Rattle.table.specs.Table.{tableOf}
+use Rattle.labels.specs.Field.{labelBytes}
 use Rattle.numerals.specs.Decimal.{decimal}
-use Rattle.input.specs.Text.{Said, asks, malformed, said}
-use Rattle.input.specs.Parsed.{putArcs}
-use Rattle.output.specs.Line.{routeText, newline}
+use Rattle.desk_input.specs.Text.{mostNodesRead, Said, asks, malformed, said}
+use Rattle.desk_input.specs.declared.Asked.{Asked}
+use Rattle.desk_output.specs.Line.{routeText, newline}
 use Rattle.query.specs.Query.{Input, input, queryOf, reaches, roundsOf, tellsDue}
 
 -- The fixed words of its output: `refused`, `end`, `routes`, `none`, each with the space that follows it, and for `routes` the one before it.
@@ -29,7 +34,7 @@ noneWord = 110 ∷ 111 ∷ 110 ∷ 101 ∷ 32 ∷ []
 
 -- "for 2 to 6 the record or for 12 the line": whether a number is printed beside the outcome, and the space and the number.
 unfoldable pub hasNumber : ℕ → Bool
-hasNumber o = (leb 2 o && leb o 6) || eqb o 12
+hasNumber o = (leb node o && leb o order) || eqb o text
 
 unfoldable pub besideText : ℕ → ℕ → List ℕ
 unfolding decimal hasNumber
@@ -50,7 +55,7 @@ noneText n = noneWord ++ (decimal n ++ (newline ∷ []))
 unfoldable pub roundsText : Query → ℕ → List Ending → List ℕ
 unfolding routeText lengthOf noneText
 roundsText q j [] = []
-roundsText q j (answered p n ∷ rs) = routeText j (lengthOf (q .net) p) n p ++ roundsText q (j + 1) rs
+roundsText q j (answered p n ∷ rs) = routeText j (lengthOf (q .net .arcs) p) n p ++ roundsText q (j + 1) rs
 roundsText q j (unanswered n ∷ rs) = noneText n
 roundsText q j (refused ∷ rs) = noneText (q .room)
 
@@ -76,20 +81,22 @@ replyText i = cond (reaches i) (endText i) (refusedText (tellsDue i))
 abbrev pub deskLabels : ℕ
 deskLabels = 512
 
--- The arcs as a road table.
-unfoldable pub tableOf : List Arc → List ℕ
-unfolding putArcs
-tableOf xs = take (length xs * 16) (putArcs (replicate 65536 0) 0 xs)
+-- Slots for as many routes as may be wanted, among as many nodes as are read.
+abbrev pub deskWords : ℕ
+deskWords = mostRoutes * (mostNodesRead - 1)
 
--- The query that a text asks: the seven numbers of its first line are N M S T K A B.
-unfoldable pub asked : List ℕ → List Arc → Input
-unfolding tableOf
+-- The query that was read, over the table of its arcs: its labels and its area are zeros at first.
+abbrev pub readQuery : Asked → List ℕ → Input
+readQuery x table = input table (x .nodes) (x .s) (x .goal) (x .k) (x .a) (x .b) (replicate (deskLabels * labelBytes) 0) (replicate deskWords 0) mostRoutes
+
+-- The query that a text asks: the seven numbers of its first line are N M S T K A B, and the table holds the arcs of its lines.
+abbrev pub asked : List ℕ → List Arc → Input
 asked vs xs =
-    input (tableOf xs) (getD vs 0 0) (getD vs 2 0) (getD vs 3 0) (getD vs 4 0) (getD vs 5 0) (getD vs 6 0) (replicate (deskLabels * 96) 0) (replicate 8184 0) 8
+    readQuery (record { line = 0; nodes = getD vs 0 0; arcs = getD vs 1 0; s = getD vs 2 0; goal = getD vs 3 0; k = getD vs 4 0; a = getD vs 5 0; b = getD vs 6 0 }) (tableOf xs)
 
 unfoldable pub textFor : Said → List ℕ
-unfolding refusedText replyText asked
-textFor (malformed n) = refusedText (record { outcome = 12; number = n })
+unfolding refusedText replyText tableOf
+textFor (malformed n) = refusedText (beside text n)
 textFor (asks vs xs) = replyText (asked vs xs)
 
 -- "12 comes before every other refusal."

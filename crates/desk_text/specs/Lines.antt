@@ -3,7 +3,7 @@ use mathlib.Core.Path.{_≡_}
 use mathlib.Core.List.{List, [], _∷_, _++_}
 use Prim.Native.Nat.{ℕ, zero, suc, _+_, _*_, _≤_, _<_}
 use lib.ListN.{getD, take, drop}
-use Rattle.output.specs.Line.{routeText}
+use Rattle.desk_output.specs.Line.{routeText}
 use Rattle.summary.specs.declared.Sums.{Sums}
 
 -- The line of the answer in slot j.

@@ -1,15 +1,16 @@
 -- What is printed of rounds that were made.
 use mathlib.Core.Path.{_≡_}
 use mathlib.Core.List.{List, [], _∷_, map, List·Memᴰ}
-use Prim.Native.Nat.{ℕ, zero, suc, _*_, _≤_, _<_}
+use Prim.Native.Nat.{ℕ, zero, suc, _-_, _*_, _≤_, _<_}
 use lib.ListN.{length, getD}
 use Rattle.net.specs.Round.{Query, Ending, answered, unanswered, refused}
 use Rattle.net.specs.Outcome.{answers, summaries}
-use Rattle.output.specs.Line.{Appended}
+use Rattle.desk_input.specs.Text.{mostNodesRead}
+use Rattle.desk_output.specs.Line.{Appended}
 use Rattle.summary.specs.declared.Sums.{Sums}
 use Rattle.summary.specs.Sums.{firsts}
-use Rattle.query.specs.Area.{areaWith}
-use Rattle.query.specs.Query.{asRecord}
+use Rattle.query_rounds.specs.Area.{areaWith}
+use Rattle.query_rounds.specs.Progress.{asRecord}
 use Rattle.desk_text.specs.Desk.{endLines}
 
 -- The rounds of a query for k routes: answered ones, each with an arc at least, and then, short of k, one that was not.
@@ -30,6 +31,10 @@ pub record Shows (q : Query) (rs : List Ending) (w k : ℕ) (sums : Sums) (area 
   pub area₀ : List ℕ
   pub slotted : area ≡ areaWith w k area₀ (answers rs)
   pub short : (p : List ℕ) → List·Memᴰ p (answers rs) → length p ≤ w
+
+-- The words of a slot among as many nodes as are read.
+abbrev pub mostWidth : ℕ
+mostWidth = mostNodesRead - 1
 
 -- No route has more arcs than a slot has words.
 abbrev pub Small : Sums → ℕ → ℕ → Type 0

@@ -3,9 +3,9 @@ use mathlib.Core.Path.{_≡_}
 use mathlib.Core.Bool.{true}
 use mathlib.Core.List.{List}
 use Prim.Native.Nat.{ℕ}
-use Rattle.output.specs.Line.{Appended}
+use Rattle.desk_output.specs.Line.{Appended}
 use Rattle.query.specs.Query.{Input, queryOf, roundsOf, reaches, Cored}
-use Rattle.query.specs.declared.Got.{Got}
+use Rattle.query_rounds.specs.declared.Got.{Got}
 use Rattle.desk_text.specs.Desk.{replyText, endLines}
 
 -- The query of an input for k routes among so many nodes gave g, and left the area so.
@@ -26,5 +26,6 @@ KnownEnd g nodes k area = (i : Input) × (Gave i g nodes k area × (reaches i �
 abbrev pub Shown : Got → ℕ → ℕ → List ℕ → List ℕ → List ℕ → ℕ → Type 0
 Shown g nodes k area out out′ n = (i : Input) → Gave i g nodes k area → Appended out 0 (replyText i) out′ n
 
-abbrev pub ShownEnd : ℕ → Got → ℕ → ℕ → List ℕ → List ℕ → List ℕ → ℕ → Type 0
-ShownEnd o g nodes k area out out′ n = (i : Input) → Gave i g nodes k area → reaches i ≡ true → Appended out 0 (endLines (queryOf i) o (roundsOf i)) out′ n
+abbrev pub ShownEnd : Got → ℕ → ℕ → List ℕ → List ℕ → List ℕ → ℕ → Type 0
+ShownEnd g nodes k area out out′ n =
+    (i : Input) → Gave i g nodes k area → reaches i ≡ true → Appended out 0 (endLines (queryOf i) (g .told .outcome) (roundsOf i)) out′ n

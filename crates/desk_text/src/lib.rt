@@ -1,74 +1,95 @@
 // The desk program's work, from text to text.
 mod print;
 
-use query::Got;
-use query::Outcome;
+use desk_input::Asked;
+use outcome::Told;
+use query_rounds::Got;
 ghost use Prim.Native.Nat.{_≤_};
-ghost use lib.ListN.{length, replicate};
-ghost use Rattle.output.specs.Line.{Appended};
-ghost use Rattle.query.specs.Query.{input};
-ghost use Rattle.desk_text.specs.Desk.{replyText, deskText};
+ghost use lib.ListN.{length};
+ghost use Rattle.desk_input.specs.Text.{mostNodesRead};
+ghost use Rattle.desk_output.specs.Line.{Appended};
+ghost use Rattle.desk_text.specs.Desk.{deskWords, readQuery, replyText, deskText};
 ghost use Rattle.desk_text.specs.Shown.{KnownEnd, Known, ShownEnd, Shown};
 ghost use Rattle.desk_text.specs.Written.{Written, mostText};
 
+// The room that any answer fits in.
 pub const MOST_TEXT: usize = 196608;
 
+const DESK_LABELS: usize = 512;
+
+// Slots for eight routes among 1,024 nodes.
+const DESK_WORDS: usize = 8184;
+
+// A table of 4,096 arcs.
+const DESK_TABLE: usize = 65536;
+
 // The lines of the rounds of a query that gave `g`.
-fn show_rounds(out: &mut [u8], outcome: u32, g: Got, nodes: u32, k: u32, area: &[u32]) -> usize
-    requires { ⌜ (mostText ≤ length (now out)) × (nodes ≤ 1024) × (8184 ≤ length (now area)) × (KnownEnd g nodes k (now area)) ⌝ }
-    ensures { λ r. ⌜ ShownEnd outcome g nodes k (now (area .entry)) (now (out .entry)) (now (out .exit)) r ⌝ }
+fn show_rounds(out: &mut [u8], g: Got, nodes: u32, k: u32, area: &[u32]) -> usize
+    requires { ⌜ (mostText ≤ length (now out)) × (nodes ≤ mostNodesRead)
+        × (deskWords ≤ length (now area)) × (KnownEnd g nodes k (now area)) ⌝ }
+    ensures { λ r. ⌜ ShownEnd g nodes k (now (area .entry))
+        (now (out .entry)) (now (out .exit)) r ⌝ }
 {
+    let told = g.told;
     let sums = g.sums;
     let w = nodes as usize - 1;
-    print::ended(out, outcome, k as usize, w, sums, area)
+    print::ended(out, told.outcome, k as usize, w, sums, area)
 }
 
-// The lines of any query that gave `g`.
+// The lines of any query that gave `g`: of its rounds, where it has summaries to write.
 fn show(out: &mut [u8], g: Got, nodes: u32, k: u32, area: &[u32]) -> usize
-    requires { ⌜ (mostText ≤ length (now out)) × (nodes ≤ 1024) × (8184 ≤ length (now area)) × (Known g nodes k (now area)) ⌝ }
-    ensures { λ r. ⌜ Shown g nodes k (now (area .entry)) (now (out .entry)) (now (out .exit)) r ⌝ }
+    requires { ⌜ (mostText ≤ length (now out)) × (nodes ≤ mostNodesRead)
+        × (deskWords ≤ length (now area)) × (Known g nodes k (now area)) ⌝ }
+    ensures { λ r. ⌜ Shown g nodes k (now (area .entry))
+        (now (out .entry)) (now (out .exit)) r ⌝ }
 {
-    let o = g.outcome;
-    match o {
-        Outcome::Found => show_rounds(out, 0, g, nodes, k, area),
-        Outcome::Fewer => show_rounds(out, 1, g, nodes, k, area),
-        Outcome::Node(i) => print::refused(out, 2, i),
-        Outcome::Loop(i) => print::refused(out, 3, i),
-        Outcome::Length(i) => print::refused(out, 4, i),
-        Outcome::Zeros(i) => print::refused(out, 5, i),
-        Outcome::Order(i) => print::refused(out, 6, i),
-        Outcome::Ends => print::refused(out, 7, 0),
-        Outcome::Routes => print::refused(out, 8, 0),
-        Outcome::Threshold => print::refused(out, 9, 0),
-        Outcome::Buffers => print::refused(out, 10, 0),
-        Outcome::Room(r) => show_rounds(out, 11, g, nodes, k, area),
-        Outcome::Size => print::refused(out, 13, 0),
+    if g.n == 0 {
+        let told = g.told;
+        return print::refused(out, told);
     }
+    show_rounds(out, g, nodes, k, area)
 }
 
-// The reply to a query over the road table `t`.
-fn reply(out: &mut [u8], t: &[u8], nodes: u32, s: u32, goal: u32, k: u32, a: u32, b: u32) -> usize
-    requires { ⌜ (mostText ≤ length (now out)) × (nodes ≤ 1024) ⌝ }
-    ensures { λ r. ⌜ Appended (now (out .entry)) 0 (replyText (input (now (t .entry)) nodes s goal k a b (replicate 49152 0) (replicate 8184 0) 8)) (now (out .exit)) r ⌝ }
+// The reply to a query over the road table.
+fn reply(out: &mut [u8], table: &[u8], x: Asked) -> usize
+    requires { ⌜ (mostText ≤ length (now out)) × (x .nodes ≤ mostNodesRead) ⌝ }
+    ensures { λ r. ⌜ Appended (now (out .entry)) 0 (replyText (readQuery x (now (table .entry))))
+        (now (out .exit)) r ⌝ }
 {
-    let mut labels = [0u8; 49152];
-    let mut area = [0u32; 8184];
-    let g = query::core(t, nodes, s, goal, k, a, b, &mut labels, &mut area, 8);
-    show(out, g, nodes, k, &area)
+    let mut labels = [0u8; DESK_LABELS * labels::field::LABEL];
+    let mut area = [0u32; DESK_WORDS];
+    let g = query::core(
+        table,
+        x.nodes,
+        x.s,
+        x.goal,
+        x.k,
+        x.a,
+        x.b,
+        &mut labels,
+        &mut area,
+        summary::MOST_ROUTES,
+    );
+    show(out, g, x.nodes, x.k, &area)
 }
 
 // The answer to a text, into a buffer that any answer fits in.
 fn answer(text: &[u8], out: &mut [u8]) -> usize
     requires { ⌜ mostText ≤ length (now out) ⌝ }
-    ensures { λ r. ⌜ Appended (now (out .entry)) 0 (deskText (now (text .entry))) (now (out .exit)) r ⌝ }
+    ensures { λ r. ⌜ Appended (now (out .entry)) 0 (deskText (now (text .entry)))
+        (now (out .exit)) r ⌝ }
 {
-    let mut table = [0u8; 65536];
-    let x = input::read(text, &mut table);
+    let mut table = [0u8; DESK_TABLE];
+    let x = desk_input::read(text, &mut table);
     if x.line != 0 {
-        return print::refused(out, 12, x.line);
+        let told = Told {
+            outcome: outcome::TEXT,
+            number: x.line,
+        };
+        return print::refused(out, told);
     }
-    let m = x.arcs as usize * 16;
-    reply(out, &table[0..m], x.nodes, x.s, x.goal, x.k, x.a, x.b)
+    let m = x.arcs as usize * table::arc::RECORD;
+    reply(out, &table[0..m], x)
 }
 
 // What the desk program prints for a text, at the front of `out`; how many bytes it is.

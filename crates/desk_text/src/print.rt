@@ -1,11 +1,14 @@
 // The lines that the desk program prints.
+use outcome::Told;
 ghost use mathlib.Core.Path.{_≡_};
 ghost use Prim.Native.Nat.{_+_, _*_, _≤_};
 ghost use lib.ListN.{length};
-ghost use Rattle.output.specs.Line.{Appended};
-ghost use Rattle.desk_text.specs.Desk.{hasNumber, besideText, refusedText, headText, noneText};
+ghost use Rattle.desk_output.specs.Line.{Appended};
+ghost use Rattle.desk_text.specs.Desk.{hasNumber, besideText, refusedText};
+ghost use Rattle.desk_text.specs.Desk.{headText, noneText};
+ghost use Rattle.net.specs.Limits.{mostRoutes};
 ghost use Rattle.desk_text.specs.Written.{mostText};
-ghost use Rattle.desk_text.specs.Print.{Small, Printed};
+ghost use Rattle.desk_text.specs.Print.{Small, Printed, mostWidth};
 ghost use Rattle.desk_text.specs.Lines.{linesFrom, Leading};
 
 // Whether a number stands beside the outcome.
@@ -24,7 +27,8 @@ fn has_number(outcome: u32) -> bool
 // A space and the number, where one stands beside the outcome.
 fn beside(out: &mut [u8], at: usize, outcome: u32, number: u32) -> usize
     requires { ⌜ at + 21 ≤ length (now out) ⌝ }
-    ensures { λ r. ⌜ Appended (now (out .entry)) at (besideText outcome number) (now (out .exit)) r ⌝ }
+    ensures { λ r. ⌜ Appended (now (out .entry)) at (besideText outcome number)
+        (now (out .exit)) r ⌝ }
 {
     if has_number(outcome) {
         out[at] = 32;
@@ -34,13 +38,13 @@ fn beside(out: &mut [u8], at: usize, outcome: u32, number: u32) -> usize
 }
 
 // `refused`, the outcome, and for 2 to 6 and 12 the number beside it.
-pub(crate) fn refused(out: &mut [u8], outcome: u32, number: u32) -> usize
+pub(crate) fn refused(out: &mut [u8], told: Told) -> usize
     requires { ⌜ mostText ≤ length (now out) ⌝ }
-    ensures { λ r. ⌜ Appended (now (out .entry)) 0 (refusedText (record { outcome = outcome; number = number })) (now (out .exit)) r ⌝ }
+    ensures { λ r. ⌜ Appended (now (out .entry)) 0 (refusedText told) (now (out .exit)) r ⌝ }
 {
-    let first = output::bytes(out, 0, b"refused ");
-    let second = numerals::write(out, first, outcome as u64);
-    let last = beside(out, second, outcome, number);
+    let first = desk_output::bytes(out, 0, b"refused ");
+    let second = numerals::write(out, first, told.outcome as u64);
+    let last = beside(out, second, told.outcome, told.number);
     out[last] = 10;
     last + 1
 }
@@ -64,11 +68,12 @@ fn leading(sums: summary::Sums, k: usize) -> usize
 // The first line.
 fn head(out: &mut [u8], outcome: u32, count: usize) -> usize
     requires { ⌜ mostText ≤ length (now out) ⌝ }
-    ensures { λ r. ⌜ Appended (now (out .entry)) 0 (headText outcome count) (now (out .exit)) r ⌝ }
+    ensures { λ r. ⌜ Appended (now (out .entry)) 0 (headText outcome count)
+        (now (out .exit)) r ⌝ }
 {
-    let first = output::bytes(out, 0, b"end ");
+    let first = desk_output::bytes(out, 0, b"end ");
     let second = numerals::write(out, first, outcome as u64);
-    let third = output::bytes(out, second, b" routes ");
+    let third = desk_output::bytes(out, second, b" routes ");
     let last = numerals::write(out, third, count as u64);
     out[last] = 10;
     last + 1
@@ -83,8 +88,10 @@ fn lines(
     sums: summary::Sums,
     area: &[u32],
 ) -> usize
-    requires { ⌜ (mostText ≤ length (now out)) × (at ≤ 100) × (count ≤ 8) × (w ≤ 1023) × (count * w ≤ length (now area)) × (Small sums count w) ⌝ }
-    ensures { λ r. ⌜ Appended (now (out .entry)) at (linesFrom sums w (now (area .entry)) count 0) (now (out .exit)) r ⌝ }
+    requires { ⌜ (mostText ≤ length (now out)) × (at ≤ 100) × (count ≤ mostRoutes)
+        × (w ≤ mostWidth) × (count * w ≤ length (now area)) × (Small sums count w) ⌝ }
+    ensures { λ r. ⌜ Appended (now (out .entry)) at
+        (linesFrom sums w (now (area .entry)) count 0) (now (out .exit)) r ⌝ }
 {
     let mut next = at;
     let mut j = 0;
@@ -92,7 +99,7 @@ fn lines(
         let s = summary::at(sums, j);
         let a = j * w;
         let e = a + s.arcs as usize;
-        next = output::route(out, next, (j + 1) as u64, s.length, s.labels, &area[a..e]);
+        next = desk_output::route(out, next, (j + 1) as u64, s.length, s.labels, &area[a..e]);
         j += 1;
     }
     next
@@ -103,13 +110,14 @@ fn none(out: &mut [u8], at: usize, labels: u64) -> usize
     requires { ⌜ at + 26 ≤ length (now out) ⌝ }
     ensures { λ r. ⌜ Appended (now (out .entry)) at (noneText labels) (now (out .exit)) r ⌝ }
 {
-    let first = output::bytes(out, at, b"none ");
+    let first = desk_output::bytes(out, at, b"none ");
     let last = numerals::write(out, first, labels);
     out[last] = 10;
     last + 1
 }
 
-// `end`, the outcome, `routes` and how many, and a line for each round of a query for k routes, whose slots of w words stand in the area.
+// `end`, the outcome, `routes` and how many, and a line for each round of a query for k routes,
+// whose slots of w words stand in the area.
 pub(crate) fn ended(
     out: &mut [u8],
     outcome: u32,
@@ -118,8 +126,10 @@ pub(crate) fn ended(
     sums: summary::Sums,
     area: &[u32],
 ) -> usize
-    requires { ⌜ (mostText ≤ length (now out)) × (k ≤ 8) × (w ≤ 1023) × (k * w ≤ length (now area)) × (Small sums k w) ⌝ }
-    ensures { λ r. ⌜ (length (now (out .exit)) ≡ length (now (out .entry))) × (Printed outcome w k sums (now (area .entry)) (now (out .entry)) (now (out .exit)) r) ⌝ }
+    requires { ⌜ (mostText ≤ length (now out)) × (k ≤ mostRoutes) × (w ≤ mostWidth)
+        × (k * w ≤ length (now area)) × (Small sums k w) ⌝ }
+    ensures { λ r. ⌜ (length (now (out .exit)) ≡ length (now (out .entry)))
+        × (Printed outcome w k sums (now (area .entry)) (now (out .entry)) (now (out .exit)) r) ⌝ }
 {
     let count = leading(sums, k);
     let first = head(out, outcome, count);

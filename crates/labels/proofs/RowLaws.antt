@@ -5,7 +5,7 @@ use mathlib.Core.List.{List, [], _∷_, _++_}
 use Prim.Native.Nat.{ℕ, suc, _+_, _*_, _≤_, _<_}
 use native.Mathlib.Omega.{arith}
 use lib.ListN.{length, getD, drop, length-map}
-use Rattle.net.specs.Net.{Net}
+use Rattle.net.specs.Net.{Arc}
 use Rattle.net.specs.Route.{endOf, lengthOf}
 use Rattle.net.specs.Labels.{Label, extend, labelFrom, labels}
 use Rattle.net.proofs.Labels.{Closed, labels-more}
@@ -35,16 +35,16 @@ pub length-labels : (ps : List (List ℕ)) → length (labels ps) ≡ length ps
 unfolding labels
 length-labels ps = length-map ps (labelFrom ps [])
 
-module _ (net : Net) (s : ℕ) where
+module _ (arcs : List Arc) (s : ℕ) where
   pub rowsOf-more : (ls : List Label) (ps : List (List ℕ)) (x : Label) (p : List ℕ) → length ls ≡ length ps
-      → rowsOf net s (ls ++ (x ∷ [])) (ps ++ (p ∷ [])) ≡ rowsOf net s ls ps ++ (rowOf net s x p ∷ [])
+      → rowsOf arcs s (ls ++ (x ∷ [])) (ps ++ (p ∷ [])) ≡ rowsOf arcs s ls ps ++ (rowOf arcs s x p ∷ [])
   unfolding rowsOf
   rowsOf-more [] [] x p h = refl
   rowsOf-more [] (q ∷ ps) x p h = absurd (omega arith)
   rowsOf-more (y ∷ ls) [] x p h = absurd (omega arith)
-  rowsOf-more (y ∷ ls) (q ∷ ps) x p h = ap (λ l. rowOf net s y q ∷ l) (rowsOf-more ls ps x p (omega arith))
+  rowsOf-more (y ∷ ls) (q ∷ ps) x p h = ap (λ l. rowOf arcs s y q ∷ l) (rowsOf-more ls ps x p (omega arith))
 
-  length-rowsOf : (ls : List Label) (ps : List (List ℕ)) → length ls ≡ length ps → length (rowsOf net s ls ps) ≡ length ps
+  length-rowsOf : (ls : List Label) (ps : List (List ℕ)) → length ls ≡ length ps → length (rowsOf arcs s ls ps) ≡ length ps
   unfolding rowsOf
   length-rowsOf [] [] h = refl
   length-rowsOf [] (q ∷ ps) h = absurd (omega arith)
@@ -53,31 +53,31 @@ module _ (net : Net) (s : ℕ) where
 
   -- ---- labels of chains
 
-  pub labelled-none : (l : List ℕ) → labelled net s l [] ≡ l
+  pub labelled-none : (l : List ℕ) → labelled arcs s l [] ≡ l
   unfolding labelled labels rowsOf putRows
   labelled-none l = refl
 
-  pub labelled-first : (l : List ℕ) → labelled net s l ([] ∷ []) ≡ putRow l 0 (emptyRow s)
+  pub labelled-first : (l : List ℕ) → labelled arcs s l ([] ∷ []) ≡ putRow l 0 (emptyRow s)
   unfolding labelled labels labelFrom rowsOf rowOf putRows lengthOf endOf
   labelled-first l = refl
 
-  pub labelled-more : (l : List ℕ) (ps : List (List ℕ)) → Increasing net ps → Closed ps → (i a : ℕ) → i < length ps
-      → labelled net s l (ps ++ ((getD ps i [] ++ (a ∷ [])) ∷ []))
-      ≡ putRow (labelled net s l ps) (length ps)
-      (record { last-arc = a; extends = i; len = lengthOf net (getD ps i [] ++ (a ∷ [])); end = endOf net s (getD ps i [] ++ (a ∷ [])) })
+  pub labelled-more : (l : List ℕ) (ps : List (List ℕ)) → Increasing (lengthOf arcs) ps → Closed ps → (i a : ℕ) → i < length ps
+      → labelled arcs s l (ps ++ ((getD ps i [] ++ (a ∷ [])) ∷ []))
+      ≡ putRow (labelled arcs s l ps) (length ps)
+      (record { last-arc = a; extends = i; len = lengthOf arcs (getD ps i [] ++ (a ∷ [])); end = endOf arcs s (getD ps i [] ++ (a ∷ [])) })
   unfolding labelled rowOf
   labelled-more l ps inc closed i a h =
       let p = getD ps i [] ++ (a ∷ []) in
-      let rows = rowsOf net s (labels ps) ps in
+      let rows = rowsOf arcs s (labels ps) ps in
       let n : 0 + length rows ≡ length ps = omega (arith, length-rowsOf (labels ps) ps (length-labels ps)) in
-      ap (putRows l 0) (ap (λ ls. rowsOf net s ls (ps ++ (p ∷ []))) (labels-more net ps inc closed i a h) ∙ rowsOf-more (labels ps) ps (extend i a) p (length-labels ps))
-      ∙ putRows-more l 0 rows (rowOf net s (extend i a) p) ∙ ap (λ k. putRow (putRows l 0 rows) k (rowOf net s (extend i a) p)) n
+      ap (putRows l 0) (ap (λ ls. rowsOf arcs s ls (ps ++ (p ∷ []))) (labels-more (lengthOf arcs) ps inc closed i a h) ∙ rowsOf-more (labels ps) ps (extend i a) p (length-labels ps))
+      ∙ putRows-more l 0 rows (rowOf arcs s (extend i a) p) ∙ ap (λ k. putRow (putRows l 0 rows) k (rowOf arcs s (extend i a) p)) n
 
-  pub length-labelled : (l : List ℕ) (ps : List (List ℕ)) → length (labelled net s l ps) ≡ length l
+  pub length-labelled : (l : List ℕ) (ps : List (List ℕ)) → length (labelled arcs s l ps) ≡ length l
   unfolding labelled
-  length-labelled l ps = length-putRows l 0 (rowsOf net s (labels ps) ps)
+  length-labelled l ps = length-putRows l 0 (rowsOf arcs s (labels ps) ps)
 
-  pub labelled-past : (l : List ℕ) (ps : List (List ℕ)) → drop (length ps * labelBytes) (labelled net s l ps) ≡ drop (length ps * labelBytes) l
+  pub labelled-past : (l : List ℕ) (ps : List (List ℕ)) → drop (length ps * labelBytes) (labelled arcs s l ps) ≡ drop (length ps * labelBytes) l
   unfolding labelled
   labelled-past l ps =
-      drop-putRows l 0 (rowsOf net s (labels ps) ps) (length ps * labelBytes) (omega (arith, length-rowsOf (labels ps) ps (length-labels ps)))
+      drop-putRows l 0 (rowsOf arcs s (labels ps) ps) (length ps * labelBytes) (omega (arith, length-rowsOf (labels ps) ps (length-labels ps)))

@@ -14,7 +14,7 @@ use Rattle.lists.proofs.Cases.{order}
 use Rattle.lists.proofs.LoopLaws.{map-upFrom-more, map-upFrom-cong, length-map-upFrom, getD-map-upFrom}
 use Rattle.words.proofs.NumberLaws.{length-put}
 use Rattle.words.proofs.RecordLaws.{num-put-near, num-put-far, num-put-in, drop-put}
-use Rattle.net.specs.Net.{Net}
+use Rattle.net.specs.Net.{Arc}
 use Rattle.net.specs.Route.{endOf, lengthOf}
 use Rattle.net.specs.Limits.{mostNodes, mostLength, mostLabels}
 use Rattle.net.specs.Labels.{start, extend}
@@ -51,37 +51,37 @@ module _ (l : List ℕ) (n : ℕ) (x : Row) where
     fits-in = le-leb (n * labelBytes + labelBytes) (length l) room
 
     pub last-arc-same : lastArcAt (putRow l n x) n ≡ x .last-arc
-    unfolding putRow lastArcAt
+    unfolding putRow
     last-arc-same = simp (num-put-near, num-put-in 96, fits-in, f .last-arc)
 
     pub extends-same : extendsAt (putRow l n x) n ≡ x .extends
-    unfolding putRow extendsAt
+    unfolding putRow
     extends-same = simp (num-put-near, num-put-in 96, length-put, fits-in, f .extends)
 
     pub length-same : lengthAt (putRow l n x) n ≡ x .len
-    unfolding putRow lengthAt
+    unfolding putRow
     length-same = simp (num-put-near, num-put-in 96, length-put, fits-in, f .len)
 
     pub end-same : endAt (putRow l n x) n ≡ x .end
-    unfolding putRow endAt
+    unfolding putRow
     end-same = simp (num-put-in 96, length-put, fits-in, f .end)
 
   -- ---- another label
 
   pub last-arc-other : (i : ℕ) → n ≢ i → lastArcAt (putRow l n x) i ≡ lastArcAt l i
-  unfolding putRow lastArcAt
+  unfolding putRow
   last-arc-other i ne = simp num-put-far
 
   pub extends-other : (i : ℕ) → n ≢ i → extendsAt (putRow l n x) i ≡ extendsAt l i
-  unfolding putRow extendsAt
+  unfolding putRow
   extends-other i ne = simp num-put-far
 
   pub length-other : (i : ℕ) → n ≢ i → lengthAt (putRow l n x) i ≡ lengthAt l i
-  unfolding putRow lengthAt
+  unfolding putRow
   length-other i ne = simp num-put-far
 
   pub end-other : (i : ℕ) → n ≢ i → endAt (putRow l n x) i ≡ endAt l i
-  unfolding putRow endAt
+  unfolding putRow
   end-other i ne = simp num-put-far
 
   -- ---- the label read as a label of the theory
@@ -162,9 +162,9 @@ module _ {l : List ℕ} {n : ℕ} (x : Row) (d : Down l n) where
 abbrev pub emptyRow : ℕ → Row
 emptyRow s = record { last-arc = noNumber; extends = 0; len = 0; end = s }
 
-pub standing-first : (net : Net) (s : ℕ) (l : List ℕ) → s < 2 ^ 32 → labelBytes ≤ length l → Standing net s (putRow l 0 (emptyRow s)) 1
+pub standing-first : (arcs : List Arc) (s : ℕ) (l : List ℕ) → s < 2 ^ 32 → labelBytes ≤ length l → Standing arcs s (putRow l 0 (emptyRow s)) 1
 unfolding lengthOf endOf
-standing-first net s l h g =
+standing-first arcs s l h g =
     let room : 0 * labelBytes + labelBytes ≤ length l = omega arith in
     let f : Fits (emptyRow s) = record { last-arc = omega arith; extends = omega arith; len = omega arith; end = h } in
     let len : lengthAt (putRow l 0 (emptyRow s)) 0 ≡ 0 = length-same l 0 (emptyRow s) room f in
@@ -172,7 +172,7 @@ standing-first net s l h g =
     record {
       down = record { room = rw length-putRow (omega arith); lower = λ i b ne. absurd (ne (omega arith)) };
       few = omega arith;
-      arcs = λ i b ne. absurd (ne (omega arith));
+      is-arc = λ i b ne. absurd (ne (omega arith));
       lengths = λ i b. let e : i ≡ 0 = omega arith in rw (none i b, e) len;
       ends = λ i b. let e : i ≡ 0 = omega arith in rw (none i b, e) (end-same l 0 (emptyRow s) room f);
       short = λ i b. rw (none i b) (omega arith);
@@ -183,18 +183,18 @@ standing-first net s l h g =
 below-next : {P : ℕ → Type 0} (n : ℕ) → ((i : ℕ) → i < n → P i) → P n → (i : ℕ) → i < n + 1 → P i
 below-next {P} n h k i b = ⊎-elim (λ w. let e : i ≡ n = omega arith in rw e k) (λ w. h i w) (order n i)
 
-pub standing-more : {net : Net} {s : ℕ} {l : List ℕ} {n : ℕ} (x : Row) → Standing net s l n → n * labelBytes + labelBytes ≤ length l → n < mostLabels → (n ≡ 0 → ⊥)
-    → Fits x → x .extends < n → x .last-arc < length (net .arcs)
-    → x .len ≡ lengthOf net (chainAt l (x .extends) ++ (x .last-arc ∷ [])) → x .end ≡ endOf net s (chainAt l (x .extends) ++ (x .last-arc ∷ []))
-    → length (chainAt l (x .extends) ++ (x .last-arc ∷ [])) < mostNodes → x .len ≤ mostNodes * mostLength → Standing net s (putRow l n x) (n + 1)
-standing-more {net} {s} {l} {n} x st room few ne f low arc len end short most =
+pub standing-more : {arcs : List Arc} {s : ℕ} {l : List ℕ} {n : ℕ} (x : Row) → Standing arcs s l n → n * labelBytes + labelBytes ≤ length l → n < mostLabels → (n ≡ 0 → ⊥)
+    → Fits x → x .extends < n → x .last-arc < length arcs
+    → x .len ≡ lengthOf arcs (chainAt l (x .extends) ++ (x .last-arc ∷ [])) → x .end ≡ endOf arcs s (chainAt l (x .extends) ++ (x .last-arc ∷ []))
+    → length (chainAt l (x .extends) ++ (x .last-arc ∷ [])) < mostNodes → x .len ≤ mostNodes * mostLength → Standing arcs s (putRow l n x) (n + 1)
+standing-more {arcs} {s} {l} {n} x st room few ne f low arc len end short most =
     let m = putRow l n x in
     let new : chainAt m n ≡ chainAt l (x .extends) ++ (x .last-arc ∷ []) = chain-new x (st .down) room f ne low in
     let old : (i : ℕ) → i < n → chainAt m i ≡ chainAt l i = chain-other x (st .down) in
     record {
       down = down-more x (st .down) room f (λ z. low);
       few = omega arith;
-      arcs = below-next n (λ i b z. rw (last-arc-other l n x i (λ e. omega arith)) (st .arcs i b z)) (λ z. rw (last-arc-same l n x room f) arc);
+      is-arc = below-next n (λ i b z. rw (last-arc-other l n x i (λ e. omega arith)) (st .is-arc i b z)) (λ z. rw (last-arc-same l n x room f) arc);
       lengths = below-next n (λ i b. rw (length-other l n x i (λ e. omega arith), old i b) (st .lengths i b)) (rw (length-same l n x room f, new) len);
       ends = below-next n (λ i b. rw (end-other l n x i (λ e. omega arith), old i b) (st .ends i b)) (rw (end-same l n x room f, new) end);
       short = below-next n (λ i b. rw (old i b) (st .short i b)) (rw new short);

@@ -12,17 +12,17 @@ abbrev pub noNumber : ℕ
 noNumber = 4294967295
 
 -- "by its last arc, if any, and the label it extends"
-unfoldable pub lastArcAt : List ℕ → ℕ → ℕ
+abbrev pub lastArcAt : List ℕ → ℕ → ℕ
 lastArcAt l i = num 4 l (i * labelBytes + 0)
 
-unfoldable pub extendsAt : List ℕ → ℕ → ℕ
+abbrev pub extendsAt : List ℕ → ℕ → ℕ
 extendsAt l i = num 2 l (i * labelBytes + 4)
 
 -- The length of its chain, and the node that it ends at.
-unfoldable pub lengthAt : List ℕ → ℕ → ℕ
+abbrev pub lengthAt : List ℕ → ℕ → ℕ
 lengthAt l i = num 8 l (i * labelBytes + 8)
 
-unfoldable pub endAt : List ℕ → ℕ → ℕ
+abbrev pub endAt : List ℕ → ℕ → ℕ
 endAt l i = num 4 l (i * labelBytes + 16)
 
 pub record Row : Type 0 where

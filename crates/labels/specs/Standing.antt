@@ -3,7 +3,7 @@ use mathlib.Core.Path.{_≡_}
 use mathlib.Core.List.{List}
 use Prim.Native.Nat.{ℕ, _*_, _<_, _≤_}
 use lib.ListN.{length}
-use Rattle.net.specs.Net.{Net}
+use Rattle.net.specs.Net.{Arc}
 use Rattle.net.specs.Route.{endOf, lengthOf}
 use Rattle.net.specs.Limits.{mostNodes, mostLength, mostLabels}
 use Rattle.labels.specs.Field.{labelBytes, lastArcAt, extendsAt, lengthAt, endAt}
@@ -14,12 +14,12 @@ pub record Down (l : List ℕ) (n : ℕ) : Type 0 where
   pub room : n * labelBytes ≤ length l
   pub lower : (i : ℕ) → i < n → (i ≡ 0 → ⊥) → extendsAt l i < i
 
--- The first n labels stand for chains of the net from s: each has an arc of the net, and its chain's length and end.
-pub record Standing (net : Net) (s : ℕ) (l : List ℕ) (n : ℕ) : Type 0 where
+-- The first n labels stand for chains of arcs from s: each has one of the arcs, and its chain's length and end.
+pub record Standing (arcs : List Arc) (s : ℕ) (l : List ℕ) (n : ℕ) : Type 0 where
   pub down : Down l n
   pub few : n ≤ mostLabels
-  pub arcs : (i : ℕ) → i < n → (i ≡ 0 → ⊥) → lastArcAt l i < length (net .arcs)
-  pub lengths : (i : ℕ) → i < n → lengthAt l i ≡ lengthOf net (chainAt l i)
-  pub ends : (i : ℕ) → i < n → endAt l i ≡ endOf net s (chainAt l i)
+  pub is-arc : (i : ℕ) → i < n → (i ≡ 0 → ⊥) → lastArcAt l i < length arcs
+  pub lengths : (i : ℕ) → i < n → lengthAt l i ≡ lengthOf arcs (chainAt l i)
+  pub ends : (i : ℕ) → i < n → endAt l i ≡ endOf arcs s (chainAt l i)
   pub short : (i : ℕ) → i < n → length (chainAt l i) < mostNodes
   pub most : (i : ℕ) → i < n → lengthAt l i ≤ mostNodes * mostLength

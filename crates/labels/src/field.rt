@@ -2,7 +2,8 @@
 ghost use mathlib.Core.Path.{_≡_};
 ghost use Prim.Native.Nat.{_+_, _*_, _≤_};
 ghost use lib.ListN.{length};
-ghost use Rattle.labels.specs.Field.{labelBytes, lastArcAt, extendsAt, lengthAt, endAt, putRow};
+ghost use Rattle.labels.specs.Field.{labelBytes, putRow};
+ghost use Rattle.labels.specs.Field.{lastArcAt, extendsAt, lengthAt, endAt};
 
 // The bytes of a label.
 pub const LABEL: usize = 96;
@@ -18,42 +19,43 @@ const LENGTH: usize = 8;
 
 const END: usize = 16;
 
-pub fn last_arc(b: &[u8], i: usize) -> u32
-    requires { ⌜ i * labelBytes + labelBytes ≤ length (now b) ⌝ }
-    ensures { λ r. ⌜ r ≡ lastArcAt (now (b .entry)) i ⌝ }
+pub fn last_arc(labels: &[u8], label: usize) -> u32
+    requires { ⌜ label * labelBytes + labelBytes ≤ length (now labels) ⌝ }
+    ensures { λ r. ⌜ r ≡ lastArcAt (now (labels .entry)) label ⌝ }
 {
-    words::number::read32(b, i * LABEL + LAST_ARC)
+    words::number::read32(labels, label * LABEL + LAST_ARC)
 }
 
-pub fn extends(b: &[u8], i: usize) -> u16
-    requires { ⌜ i * labelBytes + labelBytes ≤ length (now b) ⌝ }
-    ensures { λ r. ⌜ r ≡ extendsAt (now (b .entry)) i ⌝ }
+pub fn extends(labels: &[u8], label: usize) -> u16
+    requires { ⌜ label * labelBytes + labelBytes ≤ length (now labels) ⌝ }
+    ensures { λ r. ⌜ r ≡ extendsAt (now (labels .entry)) label ⌝ }
 {
-    words::number::read16(b, i * LABEL + EXTENDS)
+    words::number::read16(labels, label * LABEL + EXTENDS)
 }
 
-pub fn length(b: &[u8], i: usize) -> u64
-    requires { ⌜ i * labelBytes + labelBytes ≤ length (now b) ⌝ }
-    ensures { λ r. ⌜ r ≡ lengthAt (now (b .entry)) i ⌝ }
+pub fn length(labels: &[u8], label: usize) -> u64
+    requires { ⌜ label * labelBytes + labelBytes ≤ length (now labels) ⌝ }
+    ensures { λ r. ⌜ r ≡ lengthAt (now (labels .entry)) label ⌝ }
 {
-    words::number::read64(b, i * LABEL + LENGTH)
+    words::number::read64(labels, label * LABEL + LENGTH)
 }
 
-pub fn end(b: &[u8], i: usize) -> u32
-    requires { ⌜ i * labelBytes + labelBytes ≤ length (now b) ⌝ }
-    ensures { λ r. ⌜ r ≡ endAt (now (b .entry)) i ⌝ }
+pub fn end(labels: &[u8], label: usize) -> u32
+    requires { ⌜ label * labelBytes + labelBytes ≤ length (now labels) ⌝ }
+    ensures { λ r. ⌜ r ≡ endAt (now (labels .entry)) label ⌝ }
 {
-    words::number::read32(b, i * LABEL + END)
+    words::number::read32(labels, label * LABEL + END)
 }
 
-// Label i is made of the four.
-pub fn put(b: &mut [u8], i: usize, arc: u32, extends: u16, len: u64, end: u32)
-    requires { ⌜ i * labelBytes + labelBytes ≤ length (now b) ⌝ }
-    ensures { λ r. ⌜ now (b .exit) ≡ putRow (now (b .entry)) i (record { last-arc = arc; extends = extends; len = len; end = end }) ⌝ }
+// The label is made of the four.
+pub fn put(labels: &mut [u8], label: usize, arc: u32, extends: u16, len: u64, end: u32)
+    requires { ⌜ label * labelBytes + labelBytes ≤ length (now labels) ⌝ }
+    ensures { λ r. ⌜ now (labels .exit) ≡ putRow (now (labels .entry)) label
+        (record { last-arc = arc; extends = extends; len = len; end = end }) ⌝ }
 {
-    let at = i * LABEL;
-    words::number::write32(b, at + LAST_ARC, arc);
-    words::number::write16(b, at + EXTENDS, extends);
-    words::number::write64(b, at + LENGTH, len);
-    words::number::write32(b, at + END, end);
+    let at = label * LABEL;
+    words::number::write32(labels, at + LAST_ARC, arc);
+    words::number::write16(labels, at + EXTENDS, extends);
+    words::number::write64(labels, at + LENGTH, len);
+    words::number::write32(labels, at + END, end);
 }

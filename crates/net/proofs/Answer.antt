@@ -10,24 +10,24 @@ use Prim.Native.Nat.{ℕ, _≤_, _*_}
 use native.Mathlib.Nat.{mul-le-mul-left, le-trans}
 use lib.Dec.{T, eqb, leb→le, le→leb, eqb→eq}
 use Rattle.lists.specs.Tests.{every, keep}
-use Rattle.net.specs.Route.{endOf, partial, lengthOf, precedes, overlap, within, partials}
-use Rattle.net.specs.Round.{Query, withinAll, eligible, answer, beats, lives, countedWith}
+use Rattle.net.specs.Route.{endOf, partial, lengthOf, before, precedes, overlap, within, partialsBy, partials}
+use Rattle.net.specs.Round.{Query, withinAll, eligible, answer, beats, livesBy, countedWith}
 use Rattle.lists.proofs.TestLaws.{and-i, and-l, and-r, eq→eqb, every-e, every-i, keep-e, keep-i}
 use Rattle.net.proofs.Valid.{Valid}
-use Rattle.net.proofs.Order.{precedes-irrefl, precedes-trans, AtMost, at-most-trans}
+use Rattle.net.proofs.Order.{before-irrefl, before-trans, AtMost, at-most-trans}
 use Rattle.net.proofs.Sorted.{Increasing, keep-increasing, First, head-none, head-some, increasing-last}
 use Rattle.net.proofs.Listing.{listed-is-partial, partial-is-listed, partials-increasing}
 use Rattle.net.proofs.Live.{Beats, Live, beats-e, beats-i, lives-e, lives-i}
 
 module _ (q : Query) (earlier : List (List ℕ)) where
   abbrev pub Within : List ℕ → Type 0
-  Within p = (e : List ℕ) → List·Memᴰ e earlier → q .b * overlap (q .net) p e ≤ q .a * lengthOf (q .net) e
+  Within p = (e : List ℕ) → List·Memᴰ e earlier → q .b * overlap (q .net) p e ≤ q .a * lengthOf (q .net .arcs) e
 
   pub beats-trans : (x y z : List ℕ) → Beats q earlier x y → Beats q earlier y z → Beats q earlier x z
   beats-trans x y z a b =
       record {
         same-end = a .same-end ∙ b .same-end;
-        precedes-it = precedes-trans (q .net) x y z (a .precedes-it) (b .precedes-it);
+        precedes-it = before-trans (lengthOf (q .net .arcs)) x y z (a .precedes-it) (b .precedes-it);
         no-more = λ e m. le-trans (a .no-more e m) (b .no-more e m);
       }
 
@@ -37,7 +37,7 @@ module _ (q : Query) (earlier : List (List ℕ)) where
   -- a route within the threshold of every earlier answer
   pub record Eligible (p : List ℕ) : Type 0 where
     pub is-partial : T (partial (q .net) (q .s) p)
-    pub ends : endOf (q .net) (q .s) p ≡ q .t
+    pub ends : endOf (q .net .arcs) (q .s) p ≡ q .t
     pub is-within : Within p
 
   module _ (v : Valid q) where
@@ -47,44 +47,44 @@ module _ (q : Query) (earlier : List (List ℕ)) where
     pub eligible-e : (p : List ℕ) → List·Memᴰ p (eligible q earlier) → Eligible p
     unfolding eligible withinAll within
     eligible-e p m =
-        let f : List ℕ → Bool = λ x. eqb (endOf (q .net) (q .s) x) (q .t) && withinAll q earlier x in
+        let f : List ℕ → Bool = λ x. eqb (endOf (q .net .arcs) (q .s) x) (q .t) && withinAll q earlier x in
         let w = within (q .net) (q .a) (q .b) p in
         let k = keep-e f p (partials (q .net) (q .s)) m in
         record {
           is-partial = listed-is-partial (q .net) (q .s) p (k .0);
-          ends = eqb→eq _ _ (and-l (eqb (endOf (q .net) (q .s) p) (q .t)) (every w earlier) (k .1));
-          is-within = λ e i. leb→le _ _ (every-e w (and-r (eqb (endOf (q .net) (q .s) p) (q .t)) (every w earlier) (k .1)) i);
+          ends = eqb→eq _ _ (and-l (eqb (endOf (q .net .arcs) (q .s) p) (q .t)) (every w earlier) (k .1));
+          is-within = λ e i. leb→le _ _ (every-e w (and-r (eqb (endOf (q .net .arcs) (q .s) p) (q .t)) (every w earlier) (k .1)) i);
         }
 
     pub eligible-i : (p : List ℕ) → Eligible p → List·Memᴰ p (eligible q earlier)
     unfolding eligible withinAll within
     eligible-i p h =
-        let f : List ℕ → Bool = λ x. eqb (endOf (q .net) (q .s) x) (q .t) && withinAll q earlier x in
+        let f : List ℕ → Bool = λ x. eqb (endOf (q .net .arcs) (q .s) x) (q .t) && withinAll q earlier x in
         let w = within (q .net) (q .a) (q .b) p in
         keep-i f (listed p (h .is-partial))
-        (and-i (eqb (endOf (q .net) (q .s) p) (q .t)) (every w earlier) (eq→eqb _ _ (h .ends)) (every-i w earlier (λ e i. le→leb _ _ (h .is-within e i))))
+        (and-i (eqb (endOf (q .net .arcs) (q .s) p) (q .t)) (every w earlier) (eq→eqb _ _ (h .ends)) (every-i w earlier (λ e i. le→leb _ _ (h .is-within e i))))
 
     -- ---- rule 6
 
     pub answer-none : answer q earlier ≡ none → (p : List ℕ) → Eligible p → ⊥
     unfolding answer
-    answer-none e p h = head-none (q .net) (eligible q earlier) e p (eligible-i p h)
+    answer-none e p h = head-none (lengthOf (q .net .arcs)) (eligible q earlier) e p (eligible-i p h)
 
-    eligible-increasing : Increasing (q .net) (eligible q earlier)
+    eligible-increasing : Increasing (lengthOf (q .net .arcs)) (eligible q earlier)
     unfolding eligible
     eligible-increasing =
-        keep-increasing (q .net) (λ x. eqb (endOf (q .net) (q .s) x) (q .t) && withinAll q earlier x) (partials (q .net) (q .s))
-        (partials-increasing (q .net) (q .s))
+        keep-increasing (lengthOf (q .net .arcs)) (λ x. eqb (endOf (q .net .arcs) (q .s) x) (q .t) && withinAll q earlier x) (partials (q .net) (q .s))
+        (partials-increasing (q .net) (q .s) (lengthOf (q .net .arcs)))
 
     -- it is eligible, and precedes all others that are
     pub record Answers (w : List ℕ) : Type 0 where
       pub is-eligible : Eligible w
-      pub precedes-all : (p : List ℕ) → Eligible p → (p ≡ w) ⊎ T (precedes (q .net) w p)
+      pub precedes-all : (p : List ℕ) → Eligible p → (p ≡ w) ⊎ T (precedes (q .net .arcs) w p)
 
     pub answer-some : (w : List ℕ) → answer q earlier ≡ some w → Answers w
     unfolding answer
     answer-some w e =
-        let f = head-some (q .net) (eligible q earlier) w eligible-increasing e in
+        let f = head-some (lengthOf (q .net .arcs)) (eligible q earlier) w eligible-increasing e in
         record { is-eligible = eligible-e w (f .stands); precedes-all = λ p h. f .leads p (eligible-i p h) }
 
     -- ---- a partial route within the threshold is live, or a live one beats it
@@ -101,7 +101,7 @@ module _ (q : Query) (earlier : List (List ℕ)) where
         better-i : (r : List ℕ) → T (partial (q .net) (q .s) r) → Beats q earlier r p → List·Memᴰ r better
         better-i r k b = keep-i (λ x. beats q earlier x p) (listed r k) (beats-i q earlier r p b)
 
-        best : (r : List ℕ) → First (q .net) better r → (r′ : List ℕ) × Live q earlier r′ × Beats q earlier r′ p
+        best : (r : List ℕ) → First (lengthOf (q .net .arcs)) better r → (r′ : List ℕ) × Live q earlier r′ × Beats q earlier r′ p
         best r f =
             let k = keep-e (λ x. beats q earlier x p) r ps (f .stands) in
             let b = beats-e q earlier r p (k .1) in (
@@ -110,21 +110,21 @@ module _ (q : Query) (earlier : List (List ℕ)) where
                 is-partial = listed-is-partial (q .net) (q .s) r (k .0);
                 is-within = beats-within r p b w;
                 unbeaten = λ x i c.
-                    ⊎-elim (λ e. precedes-irrefl (q .net) r (subst (λ z. T (precedes (q .net) z r)) e (c .precedes-it)))
-                    (λ l. precedes-irrefl (q .net) r (precedes-trans (q .net) r x r l (c .precedes-it)))
+                    ⊎-elim (λ e. before-irrefl (lengthOf (q .net .arcs)) r (subst (λ z. T (precedes (q .net .arcs) z r)) e (c .precedes-it)))
+                    (λ l. before-irrefl (lengthOf (q .net .arcs)) r (before-trans (lengthOf (q .net .arcs)) r x r l (c .precedes-it)))
                     (f .leads x (better-i x i (beats-trans x r p c b)));
               },
               b,
             )
 
         go : (o : Option (List ℕ)) → head? better ≡ o → Live q earlier p ⊎ ((r : List ℕ) × Live q earlier r × Beats q earlier r p)
-        go none e = inl (record { is-partial = h; is-within = w; unbeaten = λ r k b. head-none (q .net) better e r (better-i r k b) })
+        go none e = inl (record { is-partial = h; is-within = w; unbeaten = λ r k b. head-none (lengthOf (q .net .arcs)) better e r (better-i r k b) })
         go (some r) e =
-            inr (best r (head-some (q .net) better r (keep-increasing (q .net) (λ x. beats q earlier x p) ps (partials-increasing (q .net) (q .s))) e))
+            inr (best r (head-some (lengthOf (q .net .arcs)) better r (keep-increasing (lengthOf (q .net .arcs)) (λ x. beats q earlier x p) ps (partials-increasing (q .net) (q .s) (lengthOf (q .net .arcs)))) e))
 
     -- ---- the answer is live, and the first live one that ends at t
 
-    pub live-eligible : (p : List ℕ) → Live q earlier p → endOf (q .net) (q .s) p ≡ q .t → Eligible p
+    pub live-eligible : (p : List ℕ) → Live q earlier p → endOf (q .net .arcs) (q .s) p ≡ q .t → Eligible p
     live-eligible p l e = record { is-partial = l .is-partial; ends = e; is-within = l .is-within }
 
     pub answer-live : (w : List ℕ) → Answers w → Live q earlier w
@@ -133,8 +133,8 @@ module _ (q : Query) (earlier : List (List ℕ)) where
           is-partial = a .is-eligible .is-partial;
           is-within = a .is-eligible .is-within;
           unbeaten = λ r h b.
-              ⊎-elim (λ e. precedes-irrefl (q .net) w (subst (λ z. T (precedes (q .net) z w)) e (b .precedes-it)))
-              (λ l. precedes-irrefl (q .net) w (precedes-trans (q .net) w r w l (b .precedes-it)))
+              ⊎-elim (λ e. before-irrefl (lengthOf (q .net .arcs)) w (subst (λ z. T (precedes (q .net .arcs) z w)) e (b .precedes-it)))
+              (λ l. before-irrefl (lengthOf (q .net .arcs)) w (before-trans (lengthOf (q .net .arcs)) w r w l (b .precedes-it)))
               (a .precedes-all r
               (record { is-partial = h; ends = b .same-end ∙ a .is-eligible .ends; is-within = beats-within r w b (a .is-eligible .is-within) }));
         }
@@ -145,10 +145,10 @@ module _ (q : Query) (earlier : List (List ℕ)) where
     pub answers-unique : (w x : List ℕ) → Answers w → Answers x → w ≡ x
     answers-unique w x a b = go (b .precedes-all w (a .is-eligible)) (a .precedes-all x (b .is-eligible))
       where
-        go : (w ≡ x) ⊎ T (precedes (q .net) x w) → (x ≡ w) ⊎ T (precedes (q .net) w x) → w ≡ x
+        go : (w ≡ x) ⊎ T (precedes (q .net .arcs) x w) → (x ≡ w) ⊎ T (precedes (q .net .arcs) w x) → w ≡ x
         go (inl e) k = e
         go (inr h) (inl e) = sym e
-        go (inr h) (inr k) = absurd (precedes-irrefl (q .net) w (precedes-trans (q .net) w x w k h))
+        go (inr h) (inr k) = absurd (before-irrefl (lengthOf (q .net .arcs)) w (before-trans (lengthOf (q .net .arcs)) w x w k h))
 
     pub answer-is : (w : List ℕ) → Answers w → answer q earlier ≡ some w
     answer-is w a = go (answer q earlier) refl
@@ -165,52 +165,52 @@ module _ (q : Query) (earlier : List (List ℕ)) where
         go (some x) e = absurd (h x (answer-some x e .is-eligible))
 
     -- an eligible one is live, or a live and eligible one precedes it
-    pub eligible-live : (p : List ℕ) → Eligible p → (r : List ℕ) × Live q earlier r × (endOf (q .net) (q .s) r ≡ q .t) × ((p ≡ r) ⊎ T (precedes (q .net) r p))
+    pub eligible-live : (p : List ℕ) → Eligible p → (r : List ℕ) × Live q earlier r × (endOf (q .net .arcs) (q .s) r ≡ q .t) × ((p ≡ r) ⊎ T (precedes (q .net .arcs) r p))
     eligible-live p h = go (live-or-beaten p (h .is-partial) (h .is-within))
       where
         go : Live q earlier p ⊎ ((r : List ℕ) × Live q earlier r × Beats q earlier r p)
-            → (r : List ℕ) × Live q earlier r × (endOf (q .net) (q .s) r ≡ q .t) × ((p ≡ r) ⊎ T (precedes (q .net) r p))
+            → (r : List ℕ) × Live q earlier r × (endOf (q .net .arcs) (q .s) r ≡ q .t) × ((p ≡ r) ⊎ T (precedes (q .net .arcs) r p))
         go (inl l) = (p, l, h .ends, inl refl)
         go (inr w) = (w .0, w .1, w .2 .same-end ∙ h .ends, inr (w .2 .precedes-it))
 
     -- ---- the answer is the first live one that ends at t
 
-    pub answer-first : (w : List ℕ) → Answers w → (r : List ℕ) → Live q earlier r → endOf (q .net) (q .s) r ≡ q .t → AtMost (q .net) w r
+    pub answer-first : (w : List ℕ) → Answers w → (r : List ℕ) → Live q earlier r → endOf (q .net .arcs) (q .s) r ≡ q .t → AtMost (lengthOf (q .net .arcs)) w r
     answer-first w a r l e = ⊎-elim (λ k. inl (sym k)) inr (a .precedes-all r (live-eligible r l e))
 
-    pub first-answers : (w : List ℕ) → Live q earlier w → endOf (q .net) (q .s) w ≡ q .t
-        → ((r : List ℕ) → Live q earlier r → endOf (q .net) (q .s) r ≡ q .t → AtMost (q .net) w r) → Answers w
+    pub first-answers : (w : List ℕ) → Live q earlier w → endOf (q .net .arcs) (q .s) w ≡ q .t
+        → ((r : List ℕ) → Live q earlier r → endOf (q .net .arcs) (q .s) r ≡ q .t → AtMost (lengthOf (q .net .arcs)) w r) → Answers w
     first-answers w l e first =
         record {
           is-eligible = live-eligible w l e;
           precedes-all = λ p h.
               let k = eligible-live p h in
-              ⊎-elim (λ i. inl (sym i)) inr (at-most-trans (q .net) w (k .0) p (first (k .0) (k .1) (k .2)) (⊎-elim (λ i. inl (sym i)) inr (k .3)));
+              ⊎-elim (λ i. inl (sym i)) inr (at-most-trans (lengthOf (q .net .arcs)) w (k .0) p (first (k .0) (k .1) (k .2)) (⊎-elim (λ i. inl (sym i)) inr (k .3)));
         }
 
-    -- ---- what a round counts
+    -- ---- what a round counts, in the order by f
 
-    pub lives-increasing : Increasing (q .net) (lives q earlier)
-    unfolding lives
-    lives-increasing = keep-increasing (q .net) _ (partials (q .net) (q .s)) (partials-increasing (q .net) (q .s))
+    module _ (f : List ℕ → ℕ) where
+      pub lives-increasing : Increasing f (livesBy f q earlier)
+      unfolding livesBy
+      lives-increasing = keep-increasing f _ (partialsBy f (q .net) (q .s)) (partials-increasing (q .net) (q .s) f)
 
-    pub counted-increasing : (o : Option (List ℕ)) → Increasing (q .net) (countedWith q earlier o)
-    unfolding countedWith
-    counted-increasing none = lives-increasing
-    counted-increasing (some w) =
-        increasing-last (q .net) (keep (λ p. precedes (q .net) p w) (lives q earlier)) w
-        (keep-increasing (q .net) (λ p. precedes (q .net) p w) (lives q earlier) lives-increasing)
-        (λ x m. keep-e (λ p. precedes (q .net) p w) x (lives q earlier) m .1)
+      pub counted-increasing : (o : Option (List ℕ)) → Increasing f (countedWith f q earlier o)
+      unfolding countedWith
+      counted-increasing none = lives-increasing
+      counted-increasing (some w) =
+          increasing-last f (keep (λ p. before f p w) (livesBy f q earlier)) w (keep-increasing f (λ p. before f p w) (livesBy f q earlier) lives-increasing)
+          (λ x m. keep-e (λ p. before f p w) x (livesBy f q earlier) m .1)
 
-    pub counted-e : (w : List ℕ) → Answers w → (p : List ℕ) → List·Memᴰ p (countedWith q earlier (some w)) → Live q earlier p × ((p ≡ w) ⊎ T (precedes (q .net) p w))
-    unfolding countedWith
-    counted-e w a p m = go (List·Memᴰ·append-cases (keep (λ x. precedes (q .net) x w) (lives q earlier)) m)
-      where
-        go : List·Memᴰ p (keep (λ x. precedes (q .net) x w) (lives q earlier)) ⊎ List·Memᴰ p (w ∷ []) → Live q earlier p × ((p ≡ w) ⊎ T (precedes (q .net) p w))
-        go (inl k) = let l = keep-e (λ x. precedes (q .net) x w) p (lives q earlier) k in (lives-e q earlier v p (l .0), inr (l .1))
-        go (inr k) = let e = List·Memᴰ·eq-of-singleton k in (subst (Live q earlier) (sym e) (answer-live w a), inl e)
+      pub counted-e : (w : List ℕ) → Answers w → (p : List ℕ) → List·Memᴰ p (countedWith f q earlier (some w)) → Live q earlier p × AtMost f p w
+      unfolding countedWith
+      counted-e w a p m = go (List·Memᴰ·append-cases (keep (λ x. before f x w) (livesBy f q earlier)) m)
+        where
+          go : List·Memᴰ p (keep (λ x. before f x w) (livesBy f q earlier)) ⊎ List·Memᴰ p (w ∷ []) → Live q earlier p × AtMost f p w
+          go (inl k) = let l = keep-e (λ x. before f x w) p (livesBy f q earlier) k in (lives-e q earlier v f p (l .0), inr (l .1))
+          go (inr k) = let e = List·Memᴰ·eq-of-singleton k in (subst (Live q earlier) (sym e) (answer-live w a), inl e)
 
-    pub counted-i : (w p : List ℕ) → Live q earlier p → (p ≡ w) ⊎ T (precedes (q .net) p w) → List·Memᴰ p (countedWith q earlier (some w))
-    unfolding countedWith
-    counted-i w p l (inl e) = Memᴰ·append-right (keep (λ x. precedes (q .net) x w) (lives q earlier)) (List·Memᴰ·head e)
-    counted-i w p l (inr h) = Memᴰ·append-left (w ∷ []) (keep-i (λ x. precedes (q .net) x w) (lives-i q earlier v p l) h)
+      pub counted-i : (w p : List ℕ) → Live q earlier p → AtMost f p w → List·Memᴰ p (countedWith f q earlier (some w))
+      unfolding countedWith
+      counted-i w p l (inl e) = Memᴰ·append-right (keep (λ x. before f x w) (livesBy f q earlier)) (List·Memᴰ·head e)
+      counted-i w p l (inr h) = Memᴰ·append-left (w ∷ []) (keep-i (λ x. before f x w) (lives-i q earlier v f p l) h)

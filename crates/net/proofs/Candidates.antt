@@ -1,4 +1,4 @@
--- The candidates of a search: what the list of those after `last` holds, and its first. Being first settles it, so whatever finds a first candidate finds
+-- The candidates of a search by f: what the list of those after `last` holds, and its first. Being first settles it, so whatever finds a first candidate finds
 -- the one of `next`.
 use mathlib.Core.Path.{_≡_, refl, sym, ap}
 use mathlib.Core.Logic.{_⊎_, inl, inr, ⊎-elim}
@@ -9,7 +9,7 @@ use lib.Dec.{T}
 use Rattle.lists.proofs.TestLaws.{keep-e, keep-i}
 use Rattle.lists.proofs.MemberLaws.{flatMap-e, flatMap-i}
 use Rattle.net.specs.Net.{Net}
-use Rattle.net.specs.Route.{endOf, leaves, precedes, leaving, inOrder}
+use Rattle.net.specs.Route.{endOf, leaves, before, leaving, inOrder}
 use Rattle.net.specs.Search.{candidates, waiting, next}
 use Rattle.net.proofs.Order.{AtMost, at-most-same}
 use Rattle.net.proofs.Sorted.{head-none, head-some, inOrder-e, inOrder-i, inOrder-increasing}
@@ -21,32 +21,23 @@ module _ (net : Net) (s : ℕ) where
     pub label : List ℕ
     pub last-arc : ℕ
     pub stands : List·Memᴰ label taken
-    pub leaves-end : T (leaves net (endOf net s label) last-arc)
+    pub leaves-end : T (leaves net (endOf (net .arcs) s label) last-arc)
     pub is : c ≡ label ++ (last-arc ∷ [])
-
-  pub record Candidate (taken : List (List ℕ)) (last c : List ℕ) : Type 0 where
-    pub extends : Extends taken c
-    pub after : T (precedes net last c)
-
-  -- the first candidate after `last`
-  pub record Leads (taken : List (List ℕ)) (last c : List ℕ) : Type 0 where
-    pub is-candidate : Candidate taken last c
-    pub least : (d : List ℕ) → Candidate taken last d → AtMost net c d
 
   -- the chains that p is extended to by one arc
   unfoldable pub more : List ℕ → List (List ℕ)
-  more p = map (λ a. p ++ (a ∷ [])) (leaving net (endOf net s p))
+  more p = map (λ a. p ++ (a ∷ [])) (leaving net (endOf (net .arcs) s p))
 
   pub candidate-e : (taken : List (List ℕ)) (c : List ℕ) → List·Memᴰ c (candidates net s taken) → Extends taken c
   unfolding candidates more
   candidate-e taken c m =
       let w = flatMap-e more c taken m in
-      let k = Memᴰ·of-map (λ a. w .0 ++ (a ∷ [])) (leaving net (endOf net s (w .0))) (w .2) in
+      let k = Memᴰ·of-map (λ a. w .0 ++ (a ∷ [])) (leaving net (endOf (net .arcs) s (w .0))) (w .2) in
       record {
         label = w .0;
         last-arc = k .0;
         stands = w .1;
-        leaves-end = leaving-e net s (endOf net s (w .0)) (k .0) (k .1);
+        leaves-end = leaving-e net s (endOf (net .arcs) s (w .0)) (k .0) (k .1);
         is = sym (k .2);
       }
 
@@ -54,43 +45,53 @@ module _ (net : Net) (s : ℕ) where
   unfolding candidates more
   candidate-i taken c x =
       Memᴰ·cast (x .is)
-      (flatMap-i more (x .stands) (Memᴰ·map (λ a. x .label ++ (a ∷ [])) (leaving-i net s (endOf net s (x .label)) (x .last-arc) (x .leaves-end))))
+      (flatMap-i more (x .stands) (Memᴰ·map (λ a. x .label ++ (a ∷ [])) (leaving-i net s (endOf (net .arcs) s (x .label)) (x .last-arc) (x .leaves-end))))
 
-  pub waiting-e : (taken : List (List ℕ)) (last c : List ℕ) → List·Memᴰ c (waiting net s taken last) → Candidate taken last c
+module _ (f : List ℕ → ℕ) (net : Net) (s : ℕ) where
+  pub record Candidate (taken : List (List ℕ)) (last c : List ℕ) : Type 0 where
+    pub extends : Extends net s taken c
+    pub after : T (before f last c)
+
+  -- the first candidate after `last`
+  pub record Leads (taken : List (List ℕ)) (last c : List ℕ) : Type 0 where
+    pub is-candidate : Candidate taken last c
+    pub least : (d : List ℕ) → Candidate taken last d → AtMost f c d
+
+  pub waiting-e : (taken : List (List ℕ)) (last c : List ℕ) → List·Memᴰ c (waiting f net s taken last) → Candidate taken last c
   unfolding waiting
   waiting-e taken last c m =
-      let k = keep-e (precedes net last) c (candidates net s taken) m in
-      record { extends = candidate-e taken c (k .0); after = k .1 }
+      let k = keep-e (before f last) c (candidates net s taken) m in
+      record { extends = candidate-e net s taken c (k .0); after = k .1 }
 
-  pub waiting-i : (taken : List (List ℕ)) (last c : List ℕ) → Candidate taken last c → List·Memᴰ c (waiting net s taken last)
+  pub waiting-i : (taken : List (List ℕ)) (last c : List ℕ) → Candidate taken last c → List·Memᴰ c (waiting f net s taken last)
   unfolding waiting
-  waiting-i taken last c k = keep-i (precedes net last) (candidate-i taken c (k .extends)) (k .after)
+  waiting-i taken last c k = keep-i (before f last) (candidate-i net s taken c (k .extends)) (k .after)
 
   module _ (taken : List (List ℕ)) (last : List ℕ) where
-    pub next-none : next net s taken last ≡ none → (c : List ℕ) → Candidate taken last c → ⊥
+    pub next-none : next f net s taken last ≡ none → (c : List ℕ) → Candidate taken last c → ⊥
     unfolding next
-    next-none e c k = head-none net (inOrder net (waiting net s taken last)) e c (inOrder-i net (waiting-i taken last c k))
+    next-none e c k = head-none f (inOrder f (waiting f net s taken last)) e c (inOrder-i f (waiting-i taken last c k))
 
-    pub next-some : (c : List ℕ) → next net s taken last ≡ some c → Leads taken last c
+    pub next-some : (c : List ℕ) → next f net s taken last ≡ some c → Leads taken last c
     unfolding next
     next-some c e =
-        let ws = waiting net s taken last in
-        let f = head-some net (inOrder net ws) c (inOrder-increasing net ws) e in
+        let ws = waiting f net s taken last in
+        let w = head-some f (inOrder f ws) c (inOrder-increasing f ws) e in
         record {
-          is-candidate = waiting-e taken last c (inOrder-e net c ws (f .stands));
-          least = λ d k. ⊎-elim (λ i. inl (sym i)) inr (f .leads d (inOrder-i net (waiting-i taken last d k)));
+          is-candidate = waiting-e taken last c (inOrder-e f c ws (w .stands));
+          least = λ d k. ⊎-elim (λ i. inl (sym i)) inr (w .leads d (inOrder-i f (waiting-i taken last d k)));
         }
 
-    pub next-is : (c : List ℕ) → Leads taken last c → next net s taken last ≡ some c
-    next-is c l = go (next net s taken last) refl
+    pub next-is : (c : List ℕ) → Leads taken last c → next f net s taken last ≡ some c
+    next-is c l = go (next f net s taken last) refl
       where
-        go : (o : Option (List ℕ)) → next net s taken last ≡ o → o ≡ some c
+        go : (o : Option (List ℕ)) → next f net s taken last ≡ o → o ≡ some c
         go none e = absurd (next-none e c (l .is-candidate))
-        go (some d) e = let k = next-some d e in ap some (at-most-same net d c (k .least c (l .is-candidate)) (l .least d (k .is-candidate)))
+        go (some d) e = let k = next-some d e in ap some (at-most-same f d c (k .least c (l .is-candidate)) (l .least d (k .is-candidate)))
 
-    pub next-is-none : ((c : List ℕ) → Candidate taken last c → ⊥) → next net s taken last ≡ none
-    next-is-none h = go (next net s taken last) refl
+    pub next-is-none : ((c : List ℕ) → Candidate taken last c → ⊥) → next f net s taken last ≡ none
+    next-is-none h = go (next f net s taken last) refl
       where
-        go : (o : Option (List ℕ)) → next net s taken last ≡ o → o ≡ none
+        go : (o : Option (List ℕ)) → next f net s taken last ≡ o → o ≡ none
         go none e = refl
         go (some d) e = absurd (h d (next-some d e .is-candidate))

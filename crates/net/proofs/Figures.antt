@@ -1,15 +1,15 @@
 -- Document 01's proved cases, computed: each query of the table shows what the table says.
 use mathlib.Core.List.{[], _∷_, map}
 use mathlib.Core.Path.{_≡_, refl}
-use Rattle.net.specs.Outcome.{reply}
-use Rattle.net.specs.Labels.{start, extend, held}
+use Rattle.net.specs.Outcome.{replyBy, reply}
+use Rattle.net.specs.Labels.{start, extend, heldBy, held}
 use Rattle.net.specs.Figures.{figures, onT, r03}
 
 pub figures-hold : map (λ f. reply (f .asked) (f .k)) figures ≡ map (λ f. f .due) figures
-unfolding reply
+unfolding replyBy
 figures-hold = refl
 
 -- The labels of P2's second round.
 pub labels-of-P2 : held (onT 1 2) (r03 ∷ []) ≡ start ∷ extend 0 0 ∷ extend 1 2 ∷ extend 0 1 ∷ extend 2 4 ∷ []
-unfolding held
+unfolding heldBy
 labels-of-P2 = refl

@@ -4,6 +4,7 @@ pub mod Order
 pub mod Overlap
 pub mod Lengths
 pub mod Chains
+pub mod Guide
 pub mod Sorted
 pub mod Listing
 pub mod Simple

@@ -10,9 +10,9 @@ use Rattle.lists.specs.Tests.{keep, consIf, upFrom}
 use Rattle.lists.proofs.TestLaws.{keep-append}
 use Rattle.lists.proofs.MemberLaws.{length-upFrom}
 use Rattle.net.specs.Net.{Net}
-use Rattle.net.specs.Route.{endOf, leaves, precedes, leaving}
+use Rattle.net.specs.Route.{endOf, leaves, before, leaving}
 use Rattle.net.specs.Search.{candidates, waiting, left}
-use Rattle.net.proofs.Order.{precedes-irrefl, precedes-trans}
+use Rattle.net.proofs.Order.{before-irrefl, before-trans}
 use Rattle.net.proofs.Candidates.{Candidate, candidate-i, more}
 
 module _ {A : Type 0} where
@@ -54,17 +54,17 @@ module _ {A : Type 0} where
         go false true w h = omega arith
         go false false w h = h
 
-module _ (net : Net) (s : ℕ) where
+module _ (f : List ℕ → ℕ) (net : Net) (s : ℕ) where
   -- past a candidate fewer wait
-  pub waiting-less : (taken : List (List ℕ)) (last c : List ℕ) → Candidate net s taken last c → length (waiting net s taken c) < length (waiting net s taken last)
+  pub waiting-less : (taken : List (List ℕ)) (last c : List ℕ) → Candidate f net s taken last c → length (waiting f net s taken c) < length (waiting f net s taken last)
   unfolding waiting
   waiting-less taken last c k =
-      keep-less (precedes net c) (precedes net last) (λ x h. precedes-trans net last c x (k .after) h) (candidate-i net s taken c (k .extends)) (k .after) (precedes-irrefl net c)
+      keep-less (before f c) (before f last) (λ x h. before-trans f last c x (k .after) h) (candidate-i net s taken c (k .extends)) (k .after) (before-irrefl f c)
 
   length-more : (p : List ℕ) → length (more net s p) ≤ length (net .arcs)
   unfolding more leaving
   length-more p =
-      omega (arith, length-map (leaving net (endOf net s p)) (λ a. p ++ (a ∷ [])), length-keep (leaves net (endOf net s p)) (upFrom 0 (length (net .arcs))), length-upFrom 0 (length (net .arcs)))
+      omega (arith, length-map (leaving net (endOf (net .arcs) s p)) (λ a. p ++ (a ∷ [])), length-keep (leaves net (endOf (net .arcs) s p)) (upFrom 0 (length (net .arcs))), length-upFrom 0 (length (net .arcs)))
 
   candidates-more : (taken : List (List ℕ)) (p : List ℕ) → candidates net s (taken ++ (p ∷ [])) ≡ candidates net s taken ++ more net s p
   unfolding candidates more flatMap
@@ -72,20 +72,20 @@ module _ (net : Net) (s : ℕ) where
   candidates-more (x ∷ taken) p = ap (λ l. more net s x ++ l) (candidates-more taken p) ∙ sym (mathlib.Core.List.append-assoc (more net s x) (candidates net s taken) (more net s p))
 
   -- a label more brings at most an arc's candidate each
-  pub waiting-more : (taken : List (List ℕ)) (p last : List ℕ) → length (waiting net s (taken ++ (p ∷ [])) last) ≤ length (waiting net s taken last) + length (net .arcs)
+  pub waiting-more : (taken : List (List ℕ)) (p last : List ℕ) → length (waiting f net s (taken ++ (p ∷ [])) last) ≤ length (waiting f net s taken last) + length (net .arcs)
   unfolding waiting
   waiting-more taken p last =
-      let f = precedes net last in
+      let t = before f last in
       let cs = candidates net s taken in
-      omega (arith, ap (λ l. length (keep f l)) (candidates-more taken p), ap length (keep-append f cs (more net s p)), length-append (keep f cs) (keep f (more net s p)), length-keep f (more net s p), length-more p)
+      omega (arith, ap (λ l. length (keep t l)) (candidates-more taken p), ap length (keep-append t cs (more net s p)), length-append (keep t cs) (keep t (more net s p)), length-keep t (more net s p), length-more p)
 
   -- ---- the number falls
 
-  pub left-dropped : (room : ℕ) (taken : List (List ℕ)) (last c : List ℕ) → Candidate net s taken last c → left net s room taken c < left net s room taken last
+  pub left-dropped : (room : ℕ) (taken : List (List ℕ)) (last c : List ℕ) → Candidate f net s taken last c → left f net s room taken c < left f net s room taken last
   unfolding left
   left-dropped room taken last c k = omega (arith, waiting-less taken last c k)
 
-  pub left-taken : (room : ℕ) (taken : List (List ℕ)) (last c : List ℕ) → Candidate net s taken last c → length taken < room → left net s room (taken ++ (c ∷ [])) c < left net s room taken last
+  pub left-taken : (room : ℕ) (taken : List (List ℕ)) (last c : List ℕ) → Candidate f net s taken last c → length taken < room → left f net s room (taken ++ (c ∷ [])) c < left f net s room taken last
   unfolding left
   left-taken room taken last c k h =
       let n = room - length (taken ++ (c ∷ [])) in

@@ -4,7 +4,8 @@ use mathlib.Core.Bool.{Bool, true, false, _&&_, cond}
 use Prim.Native.Nat.{ℕ, suc}
 use lib.Dec.{eqb}
 use lib.ListN.{take, getD}
-use Rattle.net.specs.Round.{Query, counted}
+use Rattle.net.specs.Route.{lengthOf}
+use Rattle.net.specs.Round.{Query, countedBy}
 
 -- "by its last arc, if any, and the label it extends": the label extended comes first here.
 pub data Label : Type 0 where
@@ -36,9 +37,12 @@ unfolding labelFrom
 labels ps = map (labelFrom ps []) ps
 
 -- "the i-th label holds the i-th counted partial route in order of rule 3 [...]; under 11 the labels hold the first ones, as many as the room"
-unfoldable pub held : Query → List (List ℕ) → List Label
-unfolding labels counted
-held q earlier = labels (take (q .room) (counted q earlier))
+unfoldable pub heldBy : (List ℕ → ℕ) → Query → List (List ℕ) → List Label
+unfolding labels countedBy
+heldBy f q earlier = labels (take (q .room) (countedBy f q earlier))
+
+abbrev pub held : Query → List (List ℕ) → List Label
+held q = heldBy (lengthOf (q .net .arcs)) q
 
 -- ---- Reading them back.
 

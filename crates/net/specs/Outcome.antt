@@ -4,9 +4,11 @@ use mathlib.Core.Bool.{not, _&&_, cond}
 use Prim.Native.Nat.{ℕ, zero, suc, _-_}
 use lib.Dec.{ltb, leb, eqb}
 use lib.ListN.{length, replicate}
+use Rattle.outcome.specs.declared.Told.{Told}
+use Rattle.outcome.specs.Outcome.{found, fewer, ends, routes, threshold, room, plain, beside}
 use Rattle.net.specs.Limits.{mostRoutes, mostB}
 use Rattle.net.specs.Route.{lengthOf}
-use Rattle.net.specs.Round.{Query, Ending, answered, unanswered, refused, ending}
+use Rattle.net.specs.Round.{Query, Ending, answered, unanswered, refused, endingBy}
 
 -- The rounds that follow one that ended so: those after its answer, if it has one.
 unfoldable pub goOn : Ending → (List ℕ → List Ending) → List Ending
@@ -15,10 +17,13 @@ goOn (unanswered n) on = unanswered n ∷ []
 goOn refused on = refused ∷ []
 
 -- Rule 7. "The query ends after k answers, or after the first round that has none." The rounds still to make, after the earlier answers.
-unfoldable pub rounds : Query → ℕ → List (List ℕ) → List Ending
-unfolding ending goOn
-rounds q zero earlier = []
-rounds q (suc k) earlier = goOn (ending q earlier) (λ p. rounds q k (earlier ++ (p ∷ [])))
+unfoldable pub roundsBy : (List ℕ → ℕ) → Query → ℕ → List (List ℕ) → List Ending
+unfolding endingBy goOn
+roundsBy f q zero earlier = []
+roundsBy f q (suc k) earlier = goOn (endingBy f q earlier) (λ p. roundsBy f q k (earlier ++ (p ∷ [])))
+
+abbrev pub rounds : Query → ℕ → List (List ℕ) → List Ending
+rounds q = roundsBy (lengthOf (q .net .arcs)) q
 
 -- "holding length, number of arcs and label count"
 pub record Summary : Type 0 where
@@ -29,7 +34,7 @@ pub record Summary : Type 0 where
 -- "A round without an answer has length 0 and arcs 0, and its label count; under 11 that count is the room."
 unfoldable pub summary : Query → Ending → Summary
 unfolding lengthOf
-summary q (answered p n) = record { len = lengthOf (q .net) p; arcs = length p; labels = n }
+summary q (answered p n) = record { len = lengthOf (q .net .arcs) p; arcs = length p; labels = n }
 summary q (unanswered n) = record { len = 0; arcs = 0; labels = n }
 summary q refused = record { len = 0; arcs = 0; labels = q .room }
 
@@ -48,25 +53,20 @@ answers (answered p n ∷ rs) = p ∷ answers rs
 answers (unanswered n ∷ rs) = answers rs
 answers (refused ∷ rs) = answers rs
 
--- "Where no number is named, 0 is returned beside the outcome."
-pub record Told : Type 0 where
-  pub outcome : ℕ
-  pub number : ℕ
-
 -- 0: "k routes found"; 1: "fewer than k, and no further one exists"; 11: "a round's label count exceeds the room", and "the number of the refused round is
 -- returned". The rounds are those from number i on.
 unfoldable pub told : ℕ → List Ending → Told
-told i [] = record { outcome = 0; number = 0 }
+told i [] = plain found
 told i (answered p n ∷ rs) = told (suc i) rs
-told i (unanswered n ∷ rs) = record { outcome = 1; number = 0 }
-told i (refused ∷ rs) = record { outcome = 11; number = i }
+told i (unanswered n ∷ rs) = plain fewer
+told i (refused ∷ rs) = beside room i
 
 -- 7: "s or t is not below the node count, or s = t"; 8: "k is outside its limits"; 9: "the threshold is outside its limits"; in this order. 0: none of them.
 unfoldable pub refusal : Query → ℕ → ℕ
 refusal q k =
-    cond (not (ltb (q .s) (q .net .nodes) && ltb (q .t) (q .net .nodes) && not (eqb (q .s) (q .t)))) 7
-    (cond (not (leb 1 k && leb k mostRoutes)) 8
-    (cond (not (leb 1 (q .b) && leb (q .b) mostB && ltb (q .a) (q .b))) 9 0))
+    cond (not (ltb (q .s) (q .net .nodes) && ltb (q .t) (q .net .nodes) && not (eqb (q .s) (q .t)))) ends
+    (cond (not (leb 1 k && leb k mostRoutes)) routes
+    (cond (not (leb 1 (q .b) && leb (q .b) mostB && ltb (q .a) (q .b))) threshold 0))
 
 pub record Reply : Type 0 where
   pub told : Told
@@ -77,8 +77,11 @@ pub record Reply : Type 0 where
 unfoldable pub replyTo : Query → ℕ → ℕ → List Ending → Reply
 unfolding told answers summaries
 replyTo q k zero rs = record { told = told 1 rs; routes = answers rs; summaries = summaries q k rs }
-replyTo q k (suc n) rs = record { told = record { outcome = suc n; number = 0 }; routes = []; summaries = [] }
+replyTo q k (suc n) rs = record { told = plain (suc n); routes = []; summaries = [] }
 
-unfoldable pub reply : Query → ℕ → Reply
-unfolding refusal rounds replyTo
-reply q k = replyTo q k (refusal q k) (rounds q k [])
+unfoldable pub replyBy : (List ℕ → ℕ) → Query → ℕ → Reply
+unfolding refusal roundsBy replyTo
+replyBy f q k = replyTo q k (refusal q k) (roundsBy f q k [])
+
+abbrev pub reply : Query → ℕ → Reply
+reply q = replyBy (lengthOf (q .net .arcs)) q

@@ -44,7 +44,8 @@ fn well_formed(text: &[u8], at: usize) -> bool
 
 // The number of all digits from place `at` on, given up as soon as it is too large.
 fn collect(text: &[u8], at: usize) -> Numeral
-    requires { ⌜ (at ≤ length (now text)) × (wellFormed (digits (drop at (now text))) ≡ true) ⌝ }
+    requires { ⌜ (at ≤ length (now text))
+        × (wellFormed (digits (drop at (now text))) ≡ true) ⌝ }
     ensures { λ r. ⌜ readOf at r ≡ number (drop at (now (text .entry))) ⌝ }
 {
     let mut n = 0u64;
@@ -101,7 +102,8 @@ fn fill_digits(s: &mut [u8], v: u64)
 // The digits of v at place `at`; the place after them.
 pub fn write(out: &mut [u8], at: usize, v: u64) -> usize
     requires { ⌜ at + 20 ≤ length (now out) ⌝ }
-    ensures { λ r. ⌜ (r ≡ at + length (decimal v)) × (now (out .exit) ≡ patch at (at + length (decimal v)) (now (out .entry)) (decimal v)) ⌝ }
+    ensures { λ r. ⌜ (r ≡ at + length (decimal v)) × (now (out .exit)
+        ≡ patch at (at + length (decimal v)) (now (out .entry)) (decimal v)) ⌝ }
 {
     let e = at + digit_count(v);
     fill_digits(&mut out[at..e], v);

@@ -1,21 +1,12 @@
 -- What the exported calls answer, by the definitions of the calls inside.
-use mathlib.Core.Path.{_≡_}
 use mathlib.Core.Bool.{_&&_, cond}
 use mathlib.Core.List.{List}
 use Prim.Native.Nat.{ℕ, _+_, _-_, _*_}
 use lib.Dec.{ltb, eqb}
-use Rattle.net.specs.Outcome.{Told}
 use Rattle.table.specs.Table.{recordBytes}
 use Rattle.table.specs.Fault.{tableFault}
 use Rattle.table.specs.Run.{runStart}
-use Rattle.summary.specs.declared.Summary.{Summary}
-use Rattle.query.specs.Query.{Input, tellsDue, labelsDue, areaDue, sumsDue}
-use Rattle.ojeonbut.specs.declared.Reply.{Reply}
 use Rattle.ojeonbut.specs.declared.Part.{Part}
-
--- The outcome, and the number beside it.
-abbrev pub shown : Reply → Told
-shown r = record { outcome = r .outcome; number = r .number }
 
 -- The run of node v, by the place of its first byte and its number of bytes.
 unfoldable pub runPart : List ℕ → ℕ → Part
@@ -27,10 +18,3 @@ runPart t v = record { place = runStart t v * recordBytes; bytes = runStart t (v
 unfoldable pub partOf : ℕ → List ℕ → ℕ → Part
 unfolding tableFault runPart
 partOf nodes t v = cond (eqb (tableFault nodes t .outcome) 0 && ltb v nodes) (runPart t v) (record { place = 0; bytes = 0 })
-
--- What the exported query shows and leaves: the outcome and the final contents of all three buffers, by functions of the input.
-pub record Answered (i : Input) (r : Reply) (labels′ area′ : List ℕ) (sums₀ sums′ : List Summary) : Type 0 where
-  pub outcome : shown r ≡ tellsDue i
-  pub labels : labels′ ≡ labelsDue i
-  pub area : area′ ≡ areaDue i
-  pub sums : sums′ ≡ sumsDue i sums₀

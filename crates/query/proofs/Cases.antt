@@ -13,32 +13,25 @@ use Rattle.net.specs.Net.{Arc, plain}
 use Rattle.net.specs.Round.{Query}
 use Rattle.net.specs.Figures.{T, two}
 use Rattle.words.specs.Number.{num}
-use Rattle.table.specs.Table.{fromAt, toAt, lenAt, zerosAt, arcsOf}
+use Rattle.labels.specs.Field.{labelBytes}
+use Rattle.table.specs.Table.{arcsOf, tableOf}
 use Rattle.table.specs.Fault.{tableFault, good}
 use Rattle.query.specs.Query.{Input, queryOf, tooSmall}
 
--- a number below 256 in four bytes
-abbrev word : ℕ → List ℕ
-word n = n ∷ 0 ∷ 0 ∷ 0 ∷ []
-
-abbrev bytesOf : List Arc → List ℕ
-bytesOf [] = []
-bytesOf (x ∷ xs) = word (x .from) ++ (word (x .to) ++ (word (x .len) ++ (word 0 ++ bytesOf xs)))
-
-pub T-good : tableFault 4 (bytesOf T) ≡ good
-unfolding tableFault fromAt toAt lenAt zerosAt num
+pub T-good : tableFault 4 (tableOf T) ≡ good
+unfolding tableFault num tableOf
 T-good = refl
 
-pub T-arcs : arcsOf (bytesOf T) ≡ T
-unfolding arcsOf fromAt toAt lenAt num
+pub T-arcs : arcsOf (tableOf T) ≡ T
+unfolding arcsOf num tableOf
 T-arcs = refl
 
-pub two-good : tableFault 2 (bytesOf two) ≡ good
-unfolding tableFault fromAt toAt lenAt zerosAt num
+pub two-good : tableFault 2 (tableOf two) ≡ good
+unfolding tableFault num tableOf
 two-good = refl
 
-pub two-arcs : arcsOf (bytesOf two) ≡ two
-unfolding arcsOf fromAt toAt lenAt num
+pub two-arcs : arcsOf (tableOf two) ≡ two
+unfolding arcsOf num tableOf
 two-arcs = refl
 
 abbrev zeros : ℕ → List ℕ
@@ -51,22 +44,22 @@ length-zeros n = length-replicate n 0
 abbrev pub asking : List Arc → ℕ → ℕ → ℕ → ℕ → ℕ → ℕ → ℕ → Input
 asking arcs nodes s goal k a b room =
     record {
-      table = bytesOf arcs;
+      table = tableOf arcs;
       ask = record { nodes = nodes; s = s; goal = goal; a = a; b = b };
       k = k;
-      labels = zeros (room * 96);
+      labels = zeros (room * labelBytes);
       area = zeros (k * (nodes - 1));
       lent = k;
     }
 
 module _ (arcs : List Arc) (nodes s goal k a b room : ℕ) where
-  room-is : length (zeros (room * 96)) / 96 ≡ room
-  room-is = ap (λ n. n / 96) (length-zeros (room * 96)) ∙ mul-div-cancel room (omega arith)
+  room-is : length (zeros (room * labelBytes)) / labelBytes ≡ room
+  room-is = ap (λ n. n / labelBytes) (length-zeros (room * labelBytes)) ∙ mul-div-cancel room (omega arith)
 
-  pub asking-query : arcsOf (bytesOf arcs) ≡ arcs → queryOf (asking arcs nodes s goal k a b room) ≡ record { net = plain nodes arcs; s = s; t = goal; a = a; b = b; room = room }
+  pub asking-query : arcsOf (tableOf arcs) ≡ arcs → queryOf (asking arcs nodes s goal k a b room) ≡ record { net = plain nodes arcs; s = s; t = goal; a = a; b = b; room = room }
   asking-query e = ap₂ {C = Query} (λ x r. record { net = plain nodes x; s = s; t = goal; a = a; b = b; room = r }) e room-is
 
   pub asking-large : room ≤ mostLabels → tooSmall (asking arcs nodes s goal k a b room) ≡ false
   unfolding tooSmall
   asking-large h =
-      rw (le-ltb (length (zeros (k * (nodes - 1)))) (k * (nodes - 1)) (omega (arith, length-zeros (k * (nodes - 1)))), le-ltb k k (omega arith), le-ltb mostLabels (length (zeros (room * 96)) / 96) (omega (arith, room-is)))
+      rw (le-ltb (length (zeros (k * (nodes - 1)))) (k * (nodes - 1)) (omega (arith, length-zeros (k * (nodes - 1)))), le-ltb k k (omega arith), le-ltb mostLabels (length (zeros (room * labelBytes)) / labelBytes) (omega (arith, room-is)))

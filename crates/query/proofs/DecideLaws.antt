@@ -4,54 +4,57 @@
 use mathlib.Core.Path.{_≡_, refl, sym, ap, subst, _∙_}
 use mathlib.Core.Bool.{Bool, true, false, not, _&&_, _||_, cond}
 use mathlib.Core.List.{List, _++_, map}
-use mathlib.Core.Logic.{_≢_, ⊎-elim}
-use Prim.Native.Nat.{ℕ, _*_, _-_, _≤_}
+use mathlib.Core.Logic.{_⊎_, inl, inr, ⊎-elim}
+use Prim.Native.Nat.{ℕ, suc, _*_, _-_, _≤_}
 use native.Mathlib.Nat.{mul-le-mul}
 use native.Mathlib.Omega.{arith}
 use lib.Dec.{T, ltb, leb, eqb, ltb→lt, lt→ltb, leb→le, T-not}
 use lib.ListN.{length, drop, replicate}
-use Rattle.lists.proofs.Cases.{order}
+use borrow.Author.Tests.{eqb-true, eqb-false, ne-eqb}
+use Rattle.lists.proofs.Cases.{cases, order}
 use Rattle.lists.proofs.TestLaws.{and-l, and-r, or-l, or-r, eq→eqb}
 use Rattle.net.specs.Limits.{mostNodes, mostRoutes, mostB, mostLabels}
-use Rattle.net.specs.Outcome.{Told, told, answers, summaries, refusal}
+use Rattle.outcome.specs.declared.Told.{Told}
+use Rattle.outcome.specs.Outcome.{buffers, plain}
+use Rattle.net.specs.Outcome.{told, answers, summaries, refusal}
 use Rattle.table.specs.Fault.{tableFault, good}
-use Rattle.search.specs.Ask.{Accepted, roomIn}
+use Rattle.table.proofs.FaultLaws.{told-good}
+use Rattle.search_ask.specs.Ask.{Accepted, roomIn}
 use Rattle.summary.specs.Sums.{written}
-use Rattle.query.specs.Area.{areaWith}
-use Rattle.query.specs.Query.{Input, queryOf, width, tooSmall, refusedOf, reaches, roundsOf, tells, tellsDue, labelsDue, areaDue, sumsDue, asRecord, Finished, Cored}
-use Rattle.query.specs.declared.Outcome.{Outcome}
-use Rattle.query.specs.declared.Got.{Got}
+use Rattle.query_rounds.specs.Area.{areaWith}
+use Rattle.query_rounds.specs.Progress.{Wanted, asRecord}
+use Rattle.query_rounds.specs.Finished.{Finished}
+use Rattle.query_rounds.specs.declared.Got.{Got}
+use Rattle.query.specs.Query.{Input, queryOf, width, tooSmall, refusedOf, reaches, roundsOf, tellsDue, labelsDue, areaDue, sumsDue, Cored}
 
 -- ---- 7, 8 and 9
 
--- a number that is not given: its test passed, and the next decides
-skipped : (b : Bool) (n x : ℕ) → cond (not b) n x ≢ n → T b × (cond (not b) n x ≡ x)
-skipped true n x ne = (tt, refl)
-skipped false n x ne = absurd (ne refl)
+-- no number is given: the test passed, and what follows gives none
+skipped : (b : Bool) (n x : ℕ) → cond (not b) (suc n) x ≡ 0 → T b × (x ≡ 0)
+skipped true n x e = (tt, e)
+skipped false n x e = absurd (omega arith)
 
 -- none of the three
 pub record Passed (i : Input) : Type 0 where
-  pub none : refusal (queryOf i) (i .k) ≡ 0
   pub ask : Accepted (i .ask) (i .table)
   pub k-least : 1 ≤ i .k
   pub k-most : i .k ≤ mostRoutes
 
-pub passed : (i : Input) (f : ℕ) → tableFault (i .ask .nodes) (i .table) ≡ good → f ≡ refusal (queryOf i) (i .k) → f ≢ 7 → f ≢ 8 → f ≢ 9 → Passed i
+pub passed : (i : Input) → tableFault (i .ask .nodes) (i .table) ≡ good → refusal (queryOf i) (i .k) ≡ 0 → Passed i
 unfolding refusal
-passed i f ok e seven eight nine =
+passed i ok e =
     let q = i .ask in
     let below = ltb (q .s) (q .nodes) in
     let ends = below && ltb (q .goal) (q .nodes) in
     let moves = not (eqb (q .s) (q .goal)) in
     let least = leb 1 (q .b) in
     let limits = least && leb (q .b) mostB in
-    let p7 = skipped (ends && moves) 7 _ (λ z. seven (e ∙ z)) in
-    let p8 = skipped (leb 1 (i .k) && leb (i .k) mostRoutes) 8 _ (λ z. eight (e ∙ p7 .1 ∙ z)) in
-    let p9 = skipped (limits && ltb (q .a) (q .b)) 9 0 (λ z. nine (e ∙ p7 .1 ∙ p8 .1 ∙ z)) in
+    let p7 = skipped (ends && moves) 6 _ e in
+    let p8 = skipped (leb 1 (i .k) && leb (i .k) mostRoutes) 7 _ (p7 .1) in
+    let p9 = skipped (limits && ltb (q .a) (q .b)) 8 0 (p8 .1) in
     record {
-      none = p7 .1 ∙ p8 .1 ∙ p9 .1;
       ask = record {
-        table = ok;
+        no-fault = ok;
         s-below = ltb→lt _ _ (and-l below (ltb (q .goal) (q .nodes)) (and-l ends moves (p7 .0)));
         goal-below = ltb→lt _ _ (and-r below (ltb (q .goal) (q .nodes)) (and-l ends moves (p7 .0)));
         apart = λ z. T-not (eqb (q .s) (q .goal)) (and-r ends moves (p7 .0)) (eq→eqb _ _ z);
@@ -93,54 +96,84 @@ large i e =
 
 -- ---- what decides
 
--- the table, where it is faulty
-refused-table : (i : Input) (x : Told) → tableFault (i .ask .nodes) (i .table) ≡ x → eqb (x .outcome) 0 ≡ false → refusedOf i ≡ x
+module _ (i : Input) where
+  -- the table, where it is faulty
+  pub refused-table : (tableFault (i .ask .nodes) (i .table) .outcome ≡ 0 → ⊥) → refusedOf i ≡ tableFault (i .ask .nodes) (i .table)
+  unfolding refusedOf
+  refused-table ne = rw (ne-eqb _ 0 ne)
+
+  module _ (ok : tableFault (i .ask .nodes) (i .table) ≡ good) where
+    pub refused-number : (n : ℕ) → refusal (queryOf i) (i .k) ≡ n → eqb n 0 ≡ false → refusedOf i ≡ plain n
+    unfolding refusedOf
+    refused-number n e some = rw (ok, e, some)
+
+    pub refused-room : refusal (queryOf i) (i .k) ≡ 0 → (b : Bool) → tooSmall i ≡ b → refusedOf i ≡ cond b (plain buffers) good
+    unfolding refusedOf
+    refused-room e b s = rw (ok, e, s)
+
+-- an outcome 0 passes every test
+pub refused-none : (i : Input) → refusedOf i .outcome ≡ 0 → (tableFault (i .ask .nodes) (i .table) ≡ good) × (refusal (queryOf i) (i .k) ≡ 0) × (tooSmall i ≡ false)
 unfolding refusedOf
-refused-table i x is some = rw is (rw some)
+refused-none i zero-is = go (cases (eqb (tableFault (i .ask .nodes) (i .table) .outcome) 0)) (cases (eqb (refusal (queryOf i) (i .k)) 0)) (cases (tooSmall i))
+  where
+    ten : eqb (tableFault (i .ask .nodes) (i .table) .outcome) 0 ≡ true → eqb (refusal (queryOf i) (i .k)) 0 ≡ true → tooSmall i ≡ true → ⊥
+    ten a b c = let z : _≡_ {A = ℕ} buffers 0 = rw (a, b, c) at zero-is in omega arith
 
-module _ (i : Input) (ok : tableFault (i .ask .nodes) (i .table) ≡ good) where
-  pub refused-number : (n : ℕ) → refusal (queryOf i) (i .k) ≡ n → eqb n 0 ≡ false → refusedOf i ≡ record { outcome = n; number = 0 }
-  unfolding refusedOf
-  refused-number n e some = rw (ok, e, some)
+    number : eqb (tableFault (i .ask .nodes) (i .table) .outcome) 0 ≡ true → eqb (refusal (queryOf i) (i .k)) 0 ≡ false → ⊥
+    number a b = eqb-false _ _ b (rw (a, b) at zero-is)
 
-  pub refused-room : refusal (queryOf i) (i .k) ≡ 0 → (b : Bool) → tooSmall i ≡ b → refusedOf i ≡ cond b (record { outcome = 10; number = 0 }) good
-  unfolding refusedOf
-  refused-room e b s = rw (ok, e, s)
+    go : (eqb (tableFault (i .ask .nodes) (i .table) .outcome) 0 ≡ true) ⊎ (eqb (tableFault (i .ask .nodes) (i .table) .outcome) 0 ≡ false)
+        → (eqb (refusal (queryOf i) (i .k)) 0 ≡ true) ⊎ (eqb (refusal (queryOf i) (i .k)) 0 ≡ false) → (tooSmall i ≡ true) ⊎ (tooSmall i ≡ false)
+        → (tableFault (i .ask .nodes) (i .table) ≡ good) × (refusal (queryOf i) (i .k) ≡ 0) × (tooSmall i ≡ false)
+    go (inl a) (inl b) (inr c) = (told-good (i .ask .nodes) (i .table) (eqb-true _ _ a), eqb-true _ _ b, c)
+    go (inl a) (inl b) (inl c) = absurd (ten a b c)
+    go (inl a) (inr b) c = absurd (number a b)
+    go (inr a) b c = absurd (eqb-false _ _ a (rw a at zero-is))
+
+-- what the rounds ask, where nothing refuses
+pub record Reached (i : Input) : Type 0 where
+  pub none : refusedOf i ≡ good
+  pub passed : Passed i
+  pub large : Large i
+
+pub reached : (i : Input) → refusedOf i .outcome ≡ 0 → Reached i
+reached i e =
+    let w = refused-none i e in
+    record { none = refused-room i (w .0) (w .1) false (w .2); passed = passed i (w .0) (w .1); large = large i (w .2) }
+
+pub wanted : (i : Input) → Reached i → Wanted (i .ask) (i .table) (i .k) (i .labels) (i .area)
+wanted i r = record { accepted = r .passed .ask; room = r .large .room; few = r .passed .k-most; slots = r .large .words }
 
 -- ---- what is due
 
 -- a refusal: nothing is written
-pub cored-refused : (i : Input) (g : Got) (x : Outcome) → (g .outcome ≡ x) × (g .n ≡ 0) → refusedOf i ≡ tells x → eqb (tells x .outcome) 0 ≡ false
-    → Cored i g (i .labels) (i .area)
+pub cored-refused : (i : Input) (g : Got) → g .told ≡ refusedOf i → g .n ≡ 0 → (refusedOf i .outcome ≡ 0 → ⊥) → Cored i g (i .labels) (i .area)
 unfolding reaches tellsDue labelsDue areaDue sumsDue
-cored-refused i g x says is some =
-    let out : reaches i ≡ false = ap (λ y. eqb (y .outcome) 0) is ∙ some in
+cored-refused i g is none some =
+    let out : reaches i ≡ false = ne-eqb _ 0 some in
     record {
-      outcome = ap tells (says .0) ∙ sym is ∙ sym (ap (λ b. cond b (told 1 (roundsOf i)) (refusedOf i)) out);
+      told = is ∙ sym (ap (λ b. cond b (told 1 (roundsOf i)) (refusedOf i)) out);
       labels = sym (ap (λ b. cond b (replicate (length (i .labels)) 0) (i .labels)) out);
       area = sym (ap (λ b. cond b (areaWith (width i) (i .k) (i .area) (answers (roundsOf i))) (i .area)) out);
-      few = omega (arith, says .1);
-      fits = omega (arith, says .1);
-      sums = λ before. ap (λ n. written (g .sums) n before) (says .1)
+      many = none ∙ sym (ap (λ b. cond b (i .k) 0) out);
+      few = omega arith;
+      fits = omega arith;
+      sums = λ before. ap (λ n. written (g .sums) n before) none
           ∙ sym (ap (λ b. cond b (map asRecord (summaries (queryOf i) (i .k) (roundsOf i)) ++ drop (i .k) before) before) out);
     }
 
--- a faulty table decides before anything else
-pub cored-table : (i : Input) (g : Got) (x : Outcome) → (g .outcome ≡ x) × (g .n ≡ 0) → tableFault (i .ask .nodes) (i .table) ≡ tells x → eqb (tells x .outcome) 0 ≡ false
-    → Cored i g (i .labels) (i .area)
-cored-table i g x says is some = cored-refused i g x says (refused-table i (tells x) is some) some
-
-pub cored-reached : (i : Input) (g : Got) (labels′ area′ : List ℕ) → refusedOf i ≡ good → i .k ≤ mostRoutes → i .k ≤ i .lent
+pub cored-reached : (i : Input) (g : Got) (labels′ area′ : List ℕ) → Reached i
     → Finished (queryOf i) (width i) (i .k) (i .labels) (i .area) g labels′ area′ → Cored i g labels′ area′
 unfolding reaches tellsDue labelsDue areaDue sumsDue
-cored-reached i g labels′ area′ is h l f =
-    let on : reaches i ≡ true = ap (λ y. eqb (y .outcome) 0) is in
+cored-reached i g labels′ area′ r f =
+    let on : reaches i ≡ true = ap (λ y. eqb (y .outcome) 0) (r .none) in
     record {
-      outcome = f .outcome ∙ sym (ap (λ b. cond b (told 1 (roundsOf i)) (refusedOf i)) on);
+      told = f .told ∙ sym (ap (λ b. cond b (told 1 (roundsOf i)) (refusedOf i)) on);
       labels = f .labels ∙ sym (ap (λ b. cond b (replicate (length (i .labels)) 0) (i .labels)) on);
       area = f .area ∙ sym (ap (λ b. cond b (areaWith (width i) (i .k) (i .area) (answers (roundsOf i))) (i .area)) on);
-      few = omega (arith, f .all);
-      fits = omega (arith, f .all);
+      many = f .all ∙ sym (ap (λ b. cond b (i .k) 0) on);
+      few = omega (arith, f .all, r .passed .k-most);
+      fits = omega (arith, f .all, r .large .lent);
       sums = λ before. ap (λ n. written (g .sums) n before) (f .all) ∙ ap (λ ys. ys ++ drop (i .k) before) (f .sums)
           ∙ sym (ap (λ b. cond b (map asRecord (summaries (queryOf i) (i .k) (roundsOf i)) ++ drop (i .k) before) before) on);
     }

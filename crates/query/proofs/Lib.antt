@@ -1,10 +1,3 @@
-pub mod AreaLaws
-pub mod SumsLaws
-pub mod ProgressLaws
-pub mod FinishLaws
-pub mod RoundsLaws
 pub mod DecideLaws
-pub mod ReplyLaws
-pub mod LocalArray
 pub mod Promises
 pub mod Cases

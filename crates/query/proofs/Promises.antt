@@ -7,15 +7,16 @@ use mathlib.Core.Bool.{Bool, true, false, cond}
 use mathlib.Core.List.{List, [], _∷_, _++_, map, append-assoc, append-nil, List·Memᴰ, List·Memᴰ·head, List·Memᴰ·tail}
 use Prim.Native.Nat.{ℕ, zero, suc, _+_, _≤_, _<_}
 use native.Mathlib.Omega.{arith}
-use borrow.Author.Tests.{ltb-true, ltb-false, eqb-true, eqb-false}
-use Rattle.lists.proofs.Cases.{cases}
-use Rattle.table.proofs.FaultLaws.{told-good}
-use Rattle.round.proofs.AskLaws.{accepted-valid}
-use Rattle.query.proofs.DecideLaws.{passed, refused-number, refused-room}
+use borrow.Author.Tests.{ltb-true, ltb-false, eqb-true}
+use Rattle.search_ask.proofs.AskLaws.{accepted-valid}
+use Rattle.query.proofs.DecideLaws.{passed, refused-number, refused-room, refused-none}
 use lib.Dec.{ltb, eqb, eqb·suc-zero}
 use lib.ListN.{length, take, getD}
-use Rattle.net.specs.Round.{Query, Ending, answered, unanswered, refused, answer, count, judged, ending}
-use Rattle.net.specs.Outcome.{Told, goOn, rounds, told, answers, summary, summaries, refusal, Reply, replyTo, reply}
+use Rattle.net.specs.Round.{Query, Ending, answered, unanswered, refused, answer, count, judged, endingBy, ending}
+use Rattle.outcome.specs.declared.Told.{Told}
+use Rattle.outcome.specs.Outcome.{plain}
+use Rattle.net.specs.Route.{lengthOf}
+use Rattle.net.specs.Outcome.{goOn, roundsBy, rounds, told, answers, summary, summaries, refusal, Reply, replyTo, replyBy, reply}
 use Rattle.net.specs.Figures.{Figure, figures}
 use Rattle.net.proofs.Valid.{Valid}
 use Rattle.net.proofs.Bound.{count-bound}
@@ -28,7 +29,7 @@ use Rattle.query.specs.Promises.{before, Demand2, Demand3}
 
 module _ (q : Query) where
   pub round-is : (k : ℕ) (earlier : List (List ℕ)) (j : ℕ) → j < length (rounds q k earlier) → getD (rounds q k earlier) j refused ≡ ending q (earlier ++ take j (answers (rounds q k earlier)))
-  unfolding rounds goOn answers
+  unfolding roundsBy goOn answers
   round-is zero earlier j h = absurd (omega arith)
   round-is (suc k) earlier j h = go (ending q earlier) refl j h (λ p. round-is k (earlier ++ (p ∷ [])))
     where
@@ -47,7 +48,7 @@ module _ (q : Query) where
 
   answer-at : (k : ℕ) (earlier : List (List ℕ)) (j : ℕ) → j < length (answers (rounds q k earlier))
       → (n : ℕ) × (ending q (earlier ++ take j (answers (rounds q k earlier))) ≡ answered (getD (answers (rounds q k earlier)) j []) n)
-  unfolding rounds goOn answers
+  unfolding roundsBy goOn answers
   answer-at zero earlier j h = absurd (omega arith)
   answer-at (suc k) earlier j h = go (ending q earlier) refl j h (λ p. answer-at k (earlier ++ (p ∷ [])))
     where
@@ -66,7 +67,7 @@ module _ (q : Query) where
 
   stops-at : (k : ℕ) (earlier : List (List ℕ)) → length (answers (rounds q k earlier)) < k
       → (ending q (earlier ++ answers (rounds q k earlier)) ≡ refused) ⊎ ((n : ℕ) × (ending q (earlier ++ answers (rounds q k earlier)) ≡ unanswered n))
-  unfolding rounds goOn answers
+  unfolding roundsBy goOn answers
   stops-at zero earlier h = absurd (omega arith)
   stops-at (suc k) earlier h = go (ending q earlier) refl h (λ p. stops-at k (earlier ++ (p ∷ [])))
     where
@@ -85,7 +86,7 @@ module _ (q : Query) where
   -- ---- what an ending says
 
   ending-cases : (earlier : List (List ℕ)) → ((q .room < count q earlier) × (ending q earlier ≡ refused)) ⊎ ((count q earlier ≤ q .room) × (ending q earlier ≡ judged false (count q earlier) (answer q earlier)))
-  unfolding ending judged
+  unfolding endingBy judged
   ending-cases earlier = go (ltb (q .room) (count q earlier)) refl
     where
       go : (b : Bool) → ltb (q .room) (count q earlier) ≡ b
@@ -149,7 +150,7 @@ demand-3 i v b =
       counts = λ j h k. counts j h k;
       exact = λ j h. (λ e. over j h e, λ l. refuses j h l);
       shows-room = λ j h e. ap (λ z. summary (queryOf i) z .labels) e;
-      bound = λ j. count-bound (queryOf i) v b (before i j);
+      bound = λ j. count-bound (queryOf i) v b (before i j) (lengthOf (queryOf i .net .arcs));
     }
   where
     q : Query
@@ -185,38 +186,22 @@ demand-3 i v b =
 -- ---- what reaches the rounds has passed the refusals
 
 pub reached : (i : Input) → reaches i ≡ true → (tableFault (i .ask .nodes) (i .table) ≡ good) × (refusal (queryOf i) (i .k) ≡ 0) × (tooSmall i ≡ false)
-unfolding reaches refusedOf
-reached i h = go (cases (eqb (tableFault (i .ask .nodes) (i .table) .outcome) 0)) (cases (eqb (refusal (queryOf i) (i .k)) 0)) (cases (tooSmall i))
-  where
-    zero-is : refusedOf i .outcome ≡ 0
-    zero-is = eqb-true (refusedOf i .outcome) 0 h
-
-    ten : eqb (tableFault (i .ask .nodes) (i .table) .outcome) 0 ≡ true → eqb (refusal (queryOf i) (i .k)) 0 ≡ true → tooSmall i ≡ true → ⊥
-    ten a b c = let z : _≡_ {A = ℕ} 10 0 = rw (a, b, c) at zero-is in omega arith
-
-    number : eqb (tableFault (i .ask .nodes) (i .table) .outcome) 0 ≡ true → eqb (refusal (queryOf i) (i .k)) 0 ≡ false → ⊥
-    number a b = eqb-false _ _ b (rw (a, b) at zero-is)
-
-    go : (eqb (tableFault (i .ask .nodes) (i .table) .outcome) 0 ≡ true) ⊎ (eqb (tableFault (i .ask .nodes) (i .table) .outcome) 0 ≡ false) → (eqb (refusal (queryOf i) (i .k)) 0 ≡ true) ⊎ (eqb (refusal (queryOf i) (i .k)) 0 ≡ false) → (tooSmall i ≡ true) ⊎ (tooSmall i ≡ false)
-        → (tableFault (i .ask .nodes) (i .table) ≡ good) × (refusal (queryOf i) (i .k) ≡ 0) × (tooSmall i ≡ false)
-    go (inl a) (inl b) (inr c) = (told-good (i .ask .nodes) (i .table) (eqb-true _ _ a), eqb-true _ _ b, c)
-    go (inl a) (inl b) (inl c) = absurd (ten a b c)
-    go (inl a) (inr b) c = absurd (number a b)
-    go (inr a) b c = absurd (eqb-false _ _ a (rw a at zero-is))
+unfolding reaches
+reached i h = refused-none i (eqb-true (refusedOf i .outcome) 0 h)
 
 -- demand 3 of every query that reaches the rounds
 pub demand-3-reached : (i : Input) → reaches i ≡ true → Demand3 i
 demand-3-reached i h =
     let w = reached i h in
-    let p = passed i (refusal (queryOf i) (i .k)) (w .0) refl (λ e. omega (arith, w .1)) (λ e. omega (arith, w .1)) (λ e. omega (arith, w .1)) in
-    demand-3 i (accepted-valid (i .ask) (i .table) (i .labels) (p .ask)) (p .ask .b-least)
+    let p = passed i (w .0) (w .1) in
+    demand-3 i (accepted-valid (p .ask) (i .labels)) (p .ask .b-least)
 
 -- ---- the proved cases hold of the call
 
 module _ (i : Input) (ok : tableFault (i .ask .nodes) (i .table) ≡ good) (large : tooSmall i ≡ false) where
   -- by what the refusals before the rounds come to, and by the theory's refusal
   by : (x : Told) (n : ℕ) → refusedOf i ≡ x → refusal (queryOf i) (i .k) ≡ n → cond (eqb (x .outcome) 0) (told 1 (roundsOf i)) x ≡ replyTo (queryOf i) (i .k) n (roundsOf i) .told → tellsDue i ≡ reply (queryOf i) (i .k) .told
-  unfolding tellsDue reaches reply
+  unfolding tellsDue reaches replyBy
   by x n e f h = ap (λ y. cond (eqb (y .outcome) 0) (told 1 (roundsOf i)) y) e ∙ h ∙ sym (ap (λ m. replyTo (queryOf i) (i .k) m (roundsOf i) .told) f)
 
   -- over a good table, with buffers large enough, the outcome and the number beside it are those of the theory's reply
@@ -228,7 +213,7 @@ module _ (i : Input) (ok : tableFault (i .ask .nodes) (i .table) ≡ good) (larg
       go zero e = by good 0 (refused-room i ok e false large) e refl
       go (suc n) e =
           let z = eqb·suc-zero n in
-          by (record { outcome = suc n; number = 0 }) (suc n) (refused-number i ok (suc n) e z) e (ap (λ b. cond b (told 1 (roundsOf i)) (record { outcome = suc n; number = 0 })) z)
+          by (plain (suc n)) (suc n) (refused-number i ok (suc n) e z) e (ap (λ b. cond b (told 1 (roundsOf i)) (plain (suc n))) z)
 
 -- each proved case: an input that asks it is told what the table says
 figure-reply : (fs : List Figure) → map (λ f. reply (f .asked) (f .k)) fs ≡ map (λ f. f .due) fs → (f : Figure) → List·Memᴰ f fs → reply (f .asked) (f .k) ≡ f .due
@@ -242,7 +227,7 @@ figure-told i ok large f m e h =
 -- and its routes and summaries, where it reaches the rounds, are those of the table
 pub figure-made : (i : Input) → reaches i ≡ true → (f : Figure) → List·Memᴰ f figures → queryOf i ≡ f .asked → i .k ≡ f .k
     → (answers (roundsOf i) ≡ f .due .routes) × (summaries (queryOf i) (i .k) (roundsOf i) ≡ f .due .summaries)
-unfolding reply replyTo
+unfolding replyBy replyTo
 figure-made i h f m e k =
     let w = reached i h in
     let r : replyTo (queryOf i) (i .k) 0 (roundsOf i) ≡ f .due =

@@ -1,4 +1,2 @@
-pub mod Area
 pub mod Query
-pub mod Progress
 pub mod Promises

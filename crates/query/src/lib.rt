@@ -1,39 +1,122 @@
 // The query: every input gets its outcome, every buffer its contents.
-pub mod decide;
-pub mod rounds;
-
-use search::candidate::Ask;
+use outcome::Told;
+use query_rounds::Got;
+use search_ask::Ask;
 ghost use mathlib.Core.Path.{_≡_};
-ghost use lib.ListN.{length};
-ghost use Rattle.query.specs.Query.{Cored, Replied, input, blanks};
+ghost use Prim.Native.Nat.{_≤_};
+ghost use Rattle.net.specs.Limits.{mostNodes, mostRoutes};
+ghost use Rattle.net.specs.Outcome.{refusal};
+ghost use Rattle.search_ask.specs.Ask.{queryFor};
+ghost use Rattle.query.specs.Query.{asked, input, tooSmall, refusedOf, Cored};
 
-// How a query ended: each case's number, and the number beside it, is told by `tells` of specs/Query.antt.
-pub enum Outcome {
-    Found,
-    Fewer,
-    Node(u32),
-    Loop(u32),
-    Length(u32),
-    Zeros(u32),
-    Order(u32),
-    Ends,
-    Routes,
-    Threshold,
-    Buffers,
-    Room(u32),
-    Size,
+pub const MOST_B: u32 = 1000;
+
+pub const MOST_LABELS: usize = 65535;
+
+// 7, 8 or 9, or 0 where there is none of them.
+fn refusal(table: &[u8], ask: Ask, k: u32, labels: &[u8]) -> u32
+    ensures { λ r. ⌜ r
+        ≡ refusal (queryFor ask (now (table .entry)) (now (labels .entry))) k ⌝ }
+{
+    if ask.nodes <= ask.s {
+        return outcome::ENDS;
+    }
+    if ask.nodes <= ask.goal {
+        return outcome::ENDS;
+    }
+    if ask.s == ask.goal {
+        return outcome::ENDS;
+    }
+    if k < 1 {
+        return outcome::ROUTES;
+    }
+    if summary::MOST_ROUTES < k as usize {
+        return outcome::ROUTES;
+    }
+    if ask.b < 1 {
+        return outcome::THRESHOLD;
+    }
+    if MOST_B < ask.b {
+        return outcome::THRESHOLD;
+    }
+    if ask.b <= ask.a {
+        return outcome::THRESHOLD;
+    }
+    0
 }
 
-// The outcome, the summaries, and how many of them are to be written: none under a refusal.
-pub struct Got {
-    pub outcome: Outcome,
-    pub sums: summary::Sums,
-    pub n: usize,
+// Whether a buffer is too small, or the label buffer too large. `lent` is the number of summaries
+// lent.
+fn too_small(table: &[u8], ask: Ask, k: u32, labels: &[u8], area: &[u32], lent: usize) -> bool
+    requires { ⌜ (1 ≤ ask .nodes) × (ask .nodes ≤ mostNodes) × (k ≤ mostRoutes) ⌝ }
+    ensures { λ r. ⌜ r ≡ tooSmall
+        (asked (now (table .entry)) ask k (now (labels .entry)) (now (area .entry)) lent) ⌝ }
+{
+    let w = ask.nodes as usize - 1;
+    let wanted = k as usize;
+    if area.len() < wanted * w {
+        return true;
+    }
+    if lent < wanted {
+        return true;
+    }
+    MOST_LABELS < labels.len() / labels::field::LABEL
 }
 
-// The query on plain numbers: it takes each decision and does the work, and says how many summaries are to be written.
+// The decisions before the rounds: 13 and the records, then 7, 8, 9 and 10; 0 where the rounds are
+// to be made.
+fn refused(table: &[u8], ask: Ask, k: u32, labels: &[u8], area: &[u32], lent: usize) -> Told
+    ensures { λ r. ⌜ r ≡ refusedOf
+        (asked (now (table .entry)) ask k (now (labels .entry)) (now (area .entry)) lent) ⌝ }
+{
+    let nodes = ask.nodes;
+    let told = table::fault::check(table, nodes);
+    if told.outcome != outcome::FOUND {
+        return told;
+    }
+    let f = refusal(table, ask, k, labels);
+    if f != 0 {
+        return outcome::plain(f);
+    }
+    if too_small(table, ask, k, labels, area, lent) {
+        return outcome::plain(outcome::BUFFERS);
+    }
+    told
+}
+
+// A refusal, which writes no summary.
+fn refuse(told: Told) -> Got
+    ensures { λ g. ⌜ (g .told ≡ told) × (g .n ≡ 0) ⌝ }
+{
+    let none = [0u64; summary::MOST_ROUTES];
+    Got {
+        told: told,
+        sums: summary::Sums {
+            length: none,
+            arcs: none,
+            labels: none,
+        },
+        n: 0,
+    }
+}
+
+// The query of an ask for k routes.
+fn decide(table: &[u8], ask: Ask, k: u32, labels: &mut [u8], area: &mut [u32], lent: usize) -> Got
+    ensures { λ g. ⌜ Cored
+        (asked (now (table .entry)) ask k (now (labels .entry)) (now (area .entry)) lent) g
+        (now (labels .exit)) (now (area .exit)) ⌝ }
+{
+    let told = refused(table, ask, k, labels, area, lent);
+    if told.outcome != outcome::FOUND {
+        return refuse(told);
+    }
+    query_rounds::all(table, ask, k as usize, labels, area)
+}
+
+// The query on plain numbers: it takes each decision and does the work, and says which summaries
+// are to be written, and how many. `lent` is the number of summaries lent.
 pub fn core(
-    t: &[u8],
+    table: &[u8],
     nodes: u32,
     s: u32,
     goal: u32,
@@ -44,7 +127,8 @@ pub fn core(
     area: &mut [u32],
     lent: usize,
 ) -> Got
-    ensures { λ g. ⌜ Cored (input (now (t .entry)) nodes s goal k a b (now (labels .entry)) (now (area .entry)) lent) g (now (labels .exit)) (now (area .exit)) ⌝ }
+    ensures { λ g. ⌜ Cored (input (now (table .entry)) nodes s goal k a b (now (labels .entry))
+        (now (area .entry)) lent) g (now (labels .exit)) (now (area .exit)) ⌝ }
 {
     let ask = Ask {
         nodes: nodes,
@@ -53,60 +137,5 @@ pub fn core(
         a: a,
         b: b,
     };
-    decide::decide(t, ask, k, labels, area, lent)
-}
-
-// The public call: table, node count, start, goal, number of routes, threshold a/b; and three lent buffers: labels, route area, summaries.
-pub fn query(
-    t: &[u8],
-    nodes: u32,
-    s: u32,
-    goal: u32,
-    k: u32,
-    a: u32,
-    b: u32,
-    labels: &mut [u8],
-    area: &mut [u32],
-    sums: &mut [summary::Summary],
-) -> Outcome
-    ensures { λ r. ⌜ Replied (input (now (t .entry)) nodes s goal k a b (now (labels .entry)) (now (area .entry)) (length (now (sums .entry)))) r (now (labels .exit)) (now (area .exit)) (now (sums .entry)) (now (sums .exit)) ⌝ }
-{
-    let lent = sums.len();
-    let g = core(t, nodes, s, goal, k, a, b, labels, area, lent);
-    let x = g.sums;
-    let n = g.n;
-    summary::write(sums, x, n);
-    g.outcome
-}
-
-// The outcome, and eight summaries by value.
-pub struct Rows {
-    pub outcome: Outcome,
-    pub sums: [summary::Summary; summary::MOST_ROUTES],
-}
-
-// The public call over eight summaries of its own, for a caller that lends no slice of records.
-pub fn ask8(
-    t: &[u8],
-    nodes: u32,
-    s: u32,
-    goal: u32,
-    k: u32,
-    a: u32,
-    b: u32,
-    labels: &mut [u8],
-    area: &mut [u32],
-) -> Rows
-    ensures { λ r. ⌜ Replied (input (now (t .entry)) nodes s goal k a b (now (labels .entry)) (now (area .entry)) 8) (r .outcome) (now (labels .exit)) (now (area .exit)) blanks (r .sums) ⌝ }
-{
-    let mut rows = [summary::Summary {
-        length: 0,
-        arcs: 0,
-        labels: 0,
-    }; summary::MOST_ROUTES];
-    let outcome = query(t, nodes, s, goal, k, a, b, labels, area, &mut rows);
-    Rows {
-        outcome: outcome,
-        sums: rows,
-    }
+    decide(table, ask, k, labels, area, lent)
 }

@@ -26,8 +26,9 @@ use Rattle.net.proofs.Listing.{partial-short}
 use Rattle.net.proofs.Lengths.{lengthOf-most}
 use Rattle.net.proofs.Ends.{answered-partial}
 use Rattle.labels.specs.Field.{noNumber}
-use Rattle.search.specs.Earlier.{routeIn, earlierIn, Earlier}
-use Rattle.round.specs.Round.{slotOf, areaAfter}
+use Rattle.search_ask.specs.Earlier.{routeIn, earlierIn, Earlier}
+use Rattle.labels.specs.Chain.{slotOf}
+use Rattle.round.specs.Round.{areaAfter}
 
 -- ---- a slot read back
 
@@ -47,27 +48,26 @@ keep-rest zero = refl
 keep-rest (suc n) = keep-rest n
 
 pub slot-route : (w : ℕ) (p : List ℕ) → ((a : ℕ) → List·Memᴰ a p → a < noNumber) → routeIn (slotOf w p) ≡ p
-unfolding routeIn slotOf
+unfolding routeIn
 slot-route w p h = keep-append isArc p (replicate (w - length p) noNumber) ∙ ap₂ _++_ (keep-arcs p h) (keep-rest (w - length p)) ∙ append-nil p
 
 pub length-slotOf : (w : ℕ) (p : List ℕ) → length p ≤ w → length (slotOf w p) ≡ w
-unfolding slotOf
 length-slotOf w p h = omega (arith, length-append p (replicate (w - length p) noNumber), length-replicate (w - length p) noNumber)
 
 -- ---- the arcs of a chain are the net's
 
 chain-arcs : (net : Net) (s : ℕ) (p : List ℕ) → T (chain net s p) → (a : ℕ) → List·Memᴰ a p → a < length (net .arcs)
 chain-arcs net s (b ∷ p) h a (List·Memᴰ·head e) = subst (λ x. x < length (net .arcs)) (sym e) (leaves-e net s b (chain-cons net s b p h .0) .is-arc)
-chain-arcs net s (b ∷ p) h a (List·Memᴰ·tail m) = chain-arcs net (arc net b .to) p (chain-cons net s b p h .1) a m
+chain-arcs net s (b ∷ p) h a (List·Memᴰ·tail m) = chain-arcs net (arc (net .arcs) b .to) p (chain-cons net s b p h .1) a m
 
 module _ (q : Query) (earlier : List (List ℕ)) (v : Valid q) (few : length (q .net .arcs) < noNumber) (p : List ℕ) (n : ℕ) (e : ending q earlier ≡ answered p n) where
   pub answered-arcs : (a : ℕ) → List·Memᴰ a p → a < noNumber
   unfolding partial
   answered-arcs a m =
-      omega (arith, chain-arcs (q .net) (q .s) p (and-l (chain (q .net) (q .s) p) _ (answered-partial q earlier v p n e)) a m)
+      omega (arith, chain-arcs (q .net) (q .s) p (and-l (chain (q .net) (q .s) p) _ (answered-partial q earlier v (lengthOf (q .net .arcs)) p n e)) a m)
 
   pub answered-short : length p ≤ q .net .nodes - 1
-  answered-short = omega (arith, partial-short (q .net) (q .s) (v .s-below) (v .sound .to-below) p (answered-partial q earlier v p n e), v .s-below)
+  answered-short = omega (arith, partial-short (q .net) (q .s) (v .s-below) (v .sound .to-below) p (answered-partial q earlier v (lengthOf (q .net .arcs)) p n e), v .s-below)
 
   module _ (r : ℕ) (area : List ℕ) (slots : r * (q .net .nodes - 1) + (q .net .nodes - 1) ≤ length area) where
     long : length (slotOf (q .net .nodes - 1) p) ≡ q .net .nodes - 1
@@ -96,27 +96,27 @@ module _ (q : Query) (earlier : List (List ℕ)) (v : Valid q) (few : length (q 
         map-upFrom-more f r ∙ ap₂ _++_ (map-upFrom-cong f g 0 r (λ j a b. there j (omega arith))) (ap (λ x. x ∷ []) here)
 
     -- and so are their lengths
-    pub earlier-kept : (lens : List ℕ) → Earlier (q .net) (q .net .nodes - 1) r area lens → r < mostRoutes → r < length lens → q .net .nodes ≤ mostNodes
-        → ((a : ℕ) → arc (q .net) a .len ≤ mostLength) → Earlier (q .net) (q .net .nodes - 1) (r + 1) (areaAfter (q .net .nodes - 1) r area (answered p n)) (set lens r (lengthOf (q .net) p))
+    pub earlier-kept : (lens : List ℕ) → Earlier (q .net .arcs) (q .net .nodes - 1) r area lens → r < mostRoutes → r < length lens → q .net .nodes ≤ mostNodes
+        → ((a : ℕ) → arc (q .net .arcs) a .len ≤ mostLength) → Earlier (q .net .arcs) (q .net .nodes - 1) (r + 1) (areaAfter (q .net .nodes - 1) r area (answered p n)) (set lens r (lengthOf (q .net .arcs) p))
     earlier-kept lens k h i nodes-most len-most =
         record {
           few = omega arith;
           slots = omega (arith, length-area, slots);
-          enough = omega (arith, length-set lens r (lengthOf (q .net) p));
+          enough = omega (arith, length-set lens r (lengthOf (q .net .arcs) p));
           lengths = λ j m. lengths j (order r j) m;
           most = λ j m. most j (order r j) m;
         }
       where
-        lengths : (j : ℕ) → (r ≤ j) ⊎ (j < r) → j < r + 1 → getD (set lens r (lengthOf (q .net) p)) j 0 ≡ lengthOf (q .net) (routeIn (slot (q .net .nodes - 1) j (areaAfter (q .net .nodes - 1) r area (answered p n))))
+        lengths : (j : ℕ) → (r ≤ j) ⊎ (j < r) → j < r + 1 → getD (set lens r (lengthOf (q .net .arcs) p)) j 0 ≡ lengthOf (q .net .arcs) (routeIn (slot (q .net .nodes - 1) j (areaAfter (q .net .nodes - 1) r area (answered p n))))
         lengths j (inl a) m =
             let z : r ≡ j = omega arith in
-            subst (λ y. getD (set lens r (lengthOf (q .net) p)) y 0 ≡ lengthOf (q .net) (routeIn (slot (q .net .nodes - 1) y (areaAfter (q .net .nodes - 1) r area (answered p n))))) z
-            (getD-set-same lens r (lengthOf (q .net) p) 0 i ∙ ap (lengthOf (q .net)) (sym here))
-        lengths j (inr a) m = getD-set-other lens r j (lengthOf (q .net) p) 0 (λ z. omega arith) ∙ k .lengths j a ∙ ap (lengthOf (q .net)) (sym (there j a))
+            subst (λ y. getD (set lens r (lengthOf (q .net .arcs) p)) y 0 ≡ lengthOf (q .net .arcs) (routeIn (slot (q .net .nodes - 1) y (areaAfter (q .net .nodes - 1) r area (answered p n))))) z
+            (getD-set-same lens r (lengthOf (q .net .arcs) p) 0 i ∙ ap (lengthOf (q .net .arcs)) (sym here))
+        lengths j (inr a) m = getD-set-other lens r j (lengthOf (q .net .arcs) p) 0 (λ z. omega arith) ∙ k .lengths j a ∙ ap (lengthOf (q .net .arcs)) (sym (there j a))
 
-        most : (j : ℕ) → (r ≤ j) ⊎ (j < r) → j < r + 1 → getD (set lens r (lengthOf (q .net) p)) j 0 ≤ mostNodes * mostLength
+        most : (j : ℕ) → (r ≤ j) ⊎ (j < r) → j < r + 1 → getD (set lens r (lengthOf (q .net .arcs) p)) j 0 ≤ mostNodes * mostLength
         most j (inl a) m =
             let z : r ≡ j = omega arith in
-            subst (λ y. getD (set lens r (lengthOf (q .net) p)) y 0 ≤ mostNodes * mostLength) z
-            (rw (getD-set-same lens r (lengthOf (q .net) p) 0 i) (omega (arith, lengthOf-most (q .net) mostLength len-most p, answered-short)))
-        most j (inr a) m = rw (getD-set-other lens r j (lengthOf (q .net) p) 0 (λ z. omega arith)) (k .most j a)
+            subst (λ y. getD (set lens r (lengthOf (q .net .arcs) p)) y 0 ≤ mostNodes * mostLength) z
+            (rw (getD-set-same lens r (lengthOf (q .net .arcs) p) 0 i) (omega (arith, lengthOf-most (q .net .arcs) mostLength len-most p, answered-short)))
+        most j (inr a) m = rw (getD-set-other lens r j (lengthOf (q .net .arcs) p) 0 (λ z. omega arith)) (k .most j a)

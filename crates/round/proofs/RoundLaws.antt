@@ -14,15 +14,15 @@ use Rattle.words.proofs.PartLaws.{back, lent}
 use Rattle.net.specs.Round.{Query, Ending, answered, unanswered, refused}
 use Rattle.net.specs.Labels.{held}
 use Rattle.labels.specs.Field.{noNumber, lengthAt}
-use Rattle.labels.specs.Chain.{chainAt, chainsIn, labelAt, labelsIn}
+use Rattle.labels.specs.Chain.{chainAt, chainsIn, labelAt, labelsIn, slotOf}
 use Rattle.labels.specs.Standing.{Standing}
 use Rattle.labels.specs.Rows.{labelled}
 use Rattle.labels.proofs.RowLaws.{labelled-none}
-use Rattle.round.specs.declared.turn.State.{State}
-use Rattle.round.specs.declared.round.Ended.{Ended}
-use Rattle.round.specs.declared.round.Ended.the-variants.{Answer, NoAnswer, Refused}
-use Rattle.round.specs.Round.{shown, slotOf, areaAfter, Rounded}
-use Rattle.round.specs.Stage.{StageAt, Over, Searched}
+use Rattle.round_turn.specs.declared.State.{State}
+use Rattle.round.specs.declared.Ended.{Ended}
+use Rattle.round.specs.declared.Ended.the-variants.{Answer, NoAnswer, Refused}
+use Rattle.round.specs.Round.{shown, areaAfter, Rounded}
+use Rattle.round_turn.specs.Stage.{StageAt, Over, Searched}
 
 length-labelsIn : (l : List ℕ) (n : ℕ) → length (labelsIn l n) ≡ n
 unfolding labelsIn
@@ -36,22 +36,21 @@ stage-refused (suc (suc zero)) q earlier l y a b c h = absurd (c refl)
 stage-refused (suc (suc (suc k))) q earlier l y a b c h = h
 
 -- in every stage the labels stand
-stage-standing : (k : ℕ) (q : Query) (earlier : List (List ℕ)) (l : List ℕ) (y : State) → StageAt k q earlier l y → Standing (q .net) (q .s) l (y .n)
+stage-standing : (k : ℕ) (q : Query) (earlier : List (List ℕ)) (l : List ℕ) (y : State) → StageAt k q earlier l y → Standing (q .net .arcs) (q .s) l (y .n)
 stage-standing zero q earlier l y h = h .standing
 stage-standing (suc zero) q earlier l y h = h .1 .standing
 stage-standing (suc (suc zero)) q earlier l y h = h .standing
 stage-standing (suc (suc (suc k))) q earlier l y h = h .standing
 
-pub searched-standing : (q : Query) (earlier : List (List ℕ)) (l l′ : List ℕ) (y : State) → Searched q earlier l l′ y → Standing (q .net) (q .s) l′ (y .n)
+pub searched-standing : (q : Query) (earlier : List (List ℕ)) (l l′ : List ℕ) (y : State) → Searched q earlier l l′ y → Standing (q .net .arcs) (q .s) l′ (y .n)
 searched-standing q earlier l l′ y h = stage-standing (y .stage) q earlier l′ y (h .stage)
 
 -- what the call that was lent the slot leaves in the area
-pub slot-written : (w r : ℕ) (area p ys : List ℕ) → r * w + w ≤ length area → ys ≡ p ++ replicate (length (midOf (r * w) (r * w + w - r * w) area) - length p) noNumber
+pub slot-written : (w r : ℕ) (area p ys : List ℕ) → r * w + w ≤ length area → ys ≡ slotOf (length (midOf (r * w) (r * w + w - r * w) area)) p
     → putMid (r * w) (r * w + w - r * w) area ys ≡ patch (r * w) (r * w + w) area (slotOf w p)
-unfolding slotOf
 slot-written w r area p ys h e =
     let n : length (midOf (r * w) (r * w + w - r * w) area) ≡ w = lent (r * w) (r * w + w) area (omega arith) h ∙ omega arith in
-    back (r * w) (r * w + w) area ys (omega arith) ∙ ap (patch (r * w) (r * w + w) area) (e ∙ ap (λ k. p ++ replicate (k - length p) noNumber) n)
+    back (r * w) (r * w + w) area ys (omega arith) ∙ ap (patch (r * w) (r * w + w) area) (e ∙ ap (λ k. slotOf k p) n)
 
 module _ (q : Query) (earlier : List (List ℕ)) (w r : ℕ) (area l l′ : List ℕ) (y : State) (h : Searched q earlier l l′ y) where
   -- over any area that is as the ending says
@@ -62,7 +61,7 @@ module _ (q : Query) (earlier : List (List ℕ)) (w r : ℕ) (area l l′ : List
       record {
         ends = s ∙ ap (shown q) (sym (o .ends));
         holds = ap (labelsIn l′) n ∙ o .holds;
-        bytes = h .keeps l (sym (labelled-none (q .net) (q .s) l)) ∙ ap (labelled (q .net) (q .s) l) (o .chains);
+        bytes = h .keeps l (sym (labelled-none (q .net .arcs) (q .s) l)) ∙ ap (labelled (q .net .arcs) (q .s) l) (o .chains);
         slot = k ∙ ap (areaAfter w r area) (sym (o .ends));
       }
 

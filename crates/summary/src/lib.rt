@@ -3,7 +3,7 @@ ghost use mathlib.Core.Path.{_≡_};
 ghost use Prim.Native.Nat.{_<_, _≤_};
 ghost use lib.ListN.{length};
 ghost use Rattle.net.specs.Limits.{mostRoutes};
-ghost use Rattle.summary.specs.Sums.{recordAt, written};
+ghost use Rattle.summary.specs.Sums.{recordAt, setAt, written};
 
 // The most routes that a query may want.
 pub const MOST_ROUTES: usize = 8;
@@ -32,6 +32,24 @@ pub fn at(t: Sums, i: usize) -> Summary
         length: t.length[i],
         arcs: t.arcs[i],
         labels: t.labels[i],
+    }
+}
+
+// The summaries with that of round i, from 0.
+pub fn with(t: Sums, i: usize, x: Summary) -> Sums
+    requires { ⌜ i < mostRoutes ⌝ }
+    ensures { λ r. ⌜ r ≡ setAt t i x ⌝ }
+{
+    let mut length = t.length;
+    let mut arcs = t.arcs;
+    let mut labels = t.labels;
+    length[i] = x.length;
+    arcs[i] = x.arcs;
+    labels[i] = x.labels;
+    Sums {
+        length: length,
+        arcs: arcs,
+        labels: labels,
     }
 }
 

@@ -14,7 +14,8 @@ use lib.ListN.{length}
 use borrow.Author.Tests.{leb-true, leb-false, ltb-false, eqb-true, eqb-false, eq-eqb, ne-eqb, not-false}
 use Rattle.lists.proofs.Cases.{cases, order}
 use Rattle.net.specs.Limits.{mostNodes, mostArcs, mostLength}
-use Rattle.net.specs.Outcome.{Told}
+use Rattle.outcome.specs.declared.Told.{Told}
+use Rattle.outcome.specs.Outcome.{plain, beside, size}
 use Rattle.table.specs.Table.{recordBytes, records, fromAt, toAt, lenAt, zerosAt}
 use Rattle.table.specs.Fault.{faultOf, prevOf, faultAt, good, lowest, wrongSize, tableFault}
 
@@ -62,26 +63,6 @@ fault-none nodes prev from to len rest h =
       sorted = ltb-false from prev (p6 .0);
     }
 
--- no fault, or one of 2 to 6
-abbrev pub FaultNumber : ℕ → Type 0
-FaultNumber f = (f ≡ 0) ⊎ ((2 ≤ f) × (f ≤ 6))
-
-numbered : (b : Bool) (k x : ℕ) → 2 ≤ k → k ≤ 6 → FaultNumber x → FaultNumber (cond b k x)
-numbered true k x h g below = inr (h, g)
-numbered false k x h g below = below
-
-pub fault-number : (nodes prev from to len rest : ℕ) → FaultNumber (faultOf nodes prev from to len rest)
-unfolding faultOf
-fault-number nodes prev from to len rest =
-    numbered (leb nodes from || leb nodes to) 2 _ (omega arith) (omega arith)
-    (numbered (eqb from to) 3 _ (omega arith) (omega arith)
-    (numbered (not (leb 1 len && leb len mostLength)) 4 _ (omega arith) (omega arith)
-    (numbered (not (eqb rest 0)) 5 _ (omega arith) (omega arith)
-    (numbered (ltb from prev) 6 0 (omega arith) (omega arith) (inl refl)))))
-
-pub fault-limits : (f nodes prev from to len rest : ℕ) → f ≡ faultOf nodes prev from to len rest → (f ≡ 0 → ⊥) → (2 ≤ f) × (f ≤ 6)
-fault-limits f nodes prev from to len rest e ne = ⊎-elim (λ z. absurd (ne (e ∙ z))) (λ w. rw e w) (fault-number nodes prev from to len rest)
-
 -- ---- a loop from i up to n: the invariant is `lowest (n - i) nodes t i ≡ lowest n nodes t 0`
 
 pub prev-step : (t : List ℕ) (i : ℕ) → prevOf t (i + 1) ≡ fromAt t i
@@ -101,7 +82,7 @@ module _ (nodes : ℕ) (t : List ℕ) (n i : ℕ) where
       let e : n - i ≡ suc (n - (i + 1)) = omega arith in
       rw (e, eq-eqb (faultAt nodes t i) 0 z)
 
-  pub lowest-stop : i < n → (faultAt nodes t i ≡ 0 → ⊥) → lowest (n - i) nodes t i ≡ record { outcome = faultAt nodes t i; number = i }
+  pub lowest-stop : i < n → (faultAt nodes t i ≡ 0 → ⊥) → lowest (n - i) nodes t i ≡ beside (faultAt nodes t i) i
   unfolding lowest
   lowest-stop h ne =
       let e : n - i ≡ suc (n - (i + 1)) = omega arith in
@@ -110,7 +91,7 @@ module _ (nodes : ℕ) (t : List ℕ) (n i : ℕ) where
 -- ---- a scan that ends good
 
 -- the answer of a record with a fault is not good
-unfaulted : (f i : ℕ) (r : Told) → cond (eqb f 0) r (record { outcome = f; number = i }) ≡ good → (f ≡ 0) × (r ≡ good)
+unfaulted : (f i : ℕ) (r : Told) → cond (eqb f 0) r (beside f i) ≡ good → (f ≡ 0) × (r ≡ good)
 unfaulted f i r h =
     ⊎-elim (λ e. (eqb-true f 0 e, rw e at h))
     (λ e. absurd (eqb-false f 0 e (ap (λ x. x .outcome) (rw e at h))))
@@ -119,7 +100,7 @@ unfaulted f i r h =
 lowest-none : (n nodes : ℕ) (t : List ℕ) (i : ℕ) → lowest n nodes t i ≡ good → (j : ℕ) → j < n → faultAt nodes t (i + j) ≡ 0
 unfolding lowest
 lowest-none zero nodes t i h j w = absurd (omega arith)
-lowest-none (suc n) nodes t i h zero w = rw add-zero (unfaulted (faultAt nodes t i) i (lowest n nodes t (i + 1)) h .0)
+lowest-none (suc n) nodes t i h zero w = rw (add-zero i) (unfaulted (faultAt nodes t i) i (lowest n nodes t (i + 1)) h .0)
 lowest-none (suc n) nodes t i h (suc j) w =
     let e : i + suc j ≡ i + 1 + j = omega arith in
     rw e (lowest-none n nodes t (i + 1) (unfaulted (faultAt nodes t i) i (lowest n nodes t (i + 1)) h .1) j (omega arith))
@@ -135,8 +116,17 @@ lowest-zero (suc n) nodes t i h =
 
 -- ---- the fault of a table
 
+pub size-right : (nodes : ℕ) (t : List ℕ) → wrongSize nodes t ≡ false
+    → (1 ≤ nodes) × (nodes ≤ mostNodes) × (length t % recordBytes ≡ 0) × (records t ≤ mostArcs)
+unfolding wrongSize
+size-right nodes t e =
+    let most = or-false (not (leb 1 nodes && leb nodes mostNodes) || not (eqb (length t % recordBytes) 0)) (ltb mostArcs (records t)) e in
+    let whole = or-false (not (leb 1 nodes && leb nodes mostNodes)) (not (eqb (length t % recordBytes) 0)) (most .0) in
+    let limits = and-true (leb 1 nodes) (leb nodes mostNodes) (not-false _ (whole .0)) in
+    (leb-true 1 nodes (limits .0), leb-true nodes mostNodes (limits .1), eqb-true _ _ (not-false _ (whole .1)), ltb-false mostArcs (records t) (most .1))
+
 -- the table's size is right, and the records decide
-sized : (b : Bool) (r : Told) → cond b (record { outcome = 13; number = 0 }) r ≡ good → (b ≡ false) × (r ≡ good)
+sized : (b : Bool) (r : Told) → cond b (plain size) r ≡ good → (b ≡ false) × (r ≡ good)
 sized true r h = absurd (omega (arith, ap (λ x. x .outcome) h))
 sized false r h = (refl, h)
 
@@ -144,8 +134,8 @@ pub told-good : (nodes : ℕ) (t : List ℕ) → tableFault nodes t .outcome ≡
 unfolding tableFault
 told-good nodes t h = go (wrongSize nodes t) h
   where
-    go : (b : Bool) → cond b (record { outcome = 13; number = 0 }) (lowest (records t) nodes t 0) .outcome ≡ 0
-        → cond b (record { outcome = 13; number = 0 }) (lowest (records t) nodes t 0) ≡ good
+    go : (b : Bool) → cond b (plain size) (lowest (records t) nodes t 0) .outcome ≡ 0
+        → cond b (plain size) (lowest (records t) nodes t 0) ≡ good
     go true k = absurd (omega arith)
     go false k = lowest-zero (records t) nodes t 0 k
 
@@ -159,14 +149,9 @@ module _ (nodes : ℕ) (t : List ℕ) (ok : tableFault nodes t ≡ good) where
       fault-none nodes (prevOf t i) (fromAt t i) (toAt t i) (lenAt t i) (zerosAt t i)
       (rw zero-add at (lowest-none (records t) nodes t 0 (sized (wrongSize nodes t) (lowest (records t) nodes t 0) ok .1) i h))
 
-  pub good-size : (1 ≤ nodes) × (nodes ≤ mostNodes) × (length t % 16 ≡ 0) × (records t ≤ mostArcs)
-  unfolding tableFault wrongSize
-  good-size =
-      let size = sized (wrongSize nodes t) (lowest (records t) nodes t 0) ok .0 in
-      let most = or-false (not (leb 1 nodes && leb nodes mostNodes) || not (eqb (length t % recordBytes) 0)) (ltb mostArcs (records t)) size in
-      let whole = or-false (not (leb 1 nodes && leb nodes mostNodes)) (not (eqb (length t % recordBytes) 0)) (most .0) in
-      let limits = and-true (leb 1 nodes) (leb nodes mostNodes) (not-false _ (whole .0)) in
-      (leb-true 1 nodes (limits .0), leb-true nodes mostNodes (limits .1), eqb-true _ _ (not-false _ (whole .1)), ltb-false mostArcs (records t) (most .1))
+  pub good-size : (1 ≤ nodes) × (nodes ≤ mostNodes) × (length t % recordBytes ≡ 0) × (records t ≤ mostArcs)
+  unfolding tableFault
+  good-size = size-right nodes t (sized (wrongSize nodes t) (lowest (records t) nodes t 0) ok .0)
 
 -- ---- a scan that finds a fault: that of the lowest record that has one
 
@@ -176,7 +161,7 @@ pub record Lowest (nodes : ℕ) (t : List ℕ) (i n f j : ℕ) : Type 0 where
   pub is : faultAt nodes t j ≡ f
   pub before : (k : ℕ) → i ≤ k → k < j → faultAt nodes t k ≡ 0
 
-pub lowest-found : (n nodes : ℕ) (t : List ℕ) (i f j : ℕ) → lowest n nodes t i ≡ record { outcome = suc f; number = j } → Lowest nodes t i n (suc f) j
+pub lowest-found : (n nodes : ℕ) (t : List ℕ) (i f j : ℕ) → lowest n nodes t i ≡ beside (suc f) j → Lowest nodes t i n (suc f) j
 unfolding lowest
 lowest-found zero nodes t i f j h = absurd (omega (arith, ap (λ x. x .outcome) h))
 lowest-found (suc n) nodes t i f j h =
@@ -195,12 +180,12 @@ lowest-found (suc n) nodes t i f j h =
           (order k i);
     })
     (λ e.
-    let g : _≡_ {A = Told} (record { outcome = faultAt nodes t i; number = i }) (record { outcome = suc f; number = j }) = rw e at h in
+    let g : _≡_ {A = Told} (beside (faultAt nodes t i) i) (beside (suc f) j) = rw e at h in
     let q : i ≡ j = ap (λ x. x .number) g in
     record { first = omega arith; last = omega arith; is = rw (← q) (ap (λ x. x .outcome) g); before = λ k a b. absurd (omega arith) })
     (cases (eqb (faultAt nodes t i) 0))
 
-pub table-found : (nodes : ℕ) (t : List ℕ) (f j : ℕ) → wrongSize nodes t ≡ false → tableFault nodes t ≡ record { outcome = suc f; number = j }
+pub table-found : (nodes : ℕ) (t : List ℕ) (f j : ℕ) → wrongSize nodes t ≡ false → tableFault nodes t ≡ beside (suc f) j
     → Lowest nodes t 0 (records t) (suc f) j
 unfolding tableFault
 table-found nodes t f j size h = lowest-found (records t) nodes t 0 f j (rw size at h)

@@ -1,3 +1,4 @@
 pub mod FaultLaws
 pub mod NetLaws
 pub mod RunLaws
+pub mod TableLaws

@@ -19,31 +19,31 @@ pub arcs-length : (t : List ℕ) → length (arcsOf t) ≡ records t
 unfolding arcsOf
 arcs-length t = length-tab (records t) (arcAt t)
 
-pub arc-is : (nodes : ℕ) (t : List ℕ) (a : ℕ) → a < records t → arc (netOf nodes t) a ≡ arcAt t a
+pub arc-is : (t : List ℕ) (a : ℕ) → a < records t → arc (arcsOf t) a ≡ arcAt t a
 unfolding arcsOf
-arc-is nodes t a h = getD-tab (records t) (arcAt t) a noArc h
+arc-is t a h = getD-tab (records t) (arcAt t) a noArc h
 
 -- what holds of every record and of `noArc` holds at every number
-at-every : (P : Arc → Type 0) (nodes : ℕ) (t : List ℕ) → P noArc → ((a : ℕ) → a < records t → P (arcAt t a)) → (a : ℕ) → P (arc (netOf nodes t) a)
-at-every P nodes t past each a =
+at-every : (P : Arc → Type 0) (t : List ℕ) → P noArc → ((a : ℕ) → a < records t → P (arcAt t a)) → (a : ℕ) → P (arc (arcsOf t) a)
+at-every P t past each a =
     ⊎-elim
     (λ w. subst P (sym (List·getD-eq-default (arcsOf t) noArc {n = a} (omega (arith, arcs-length t)))) past)
-    (λ w. subst P (sym (arc-is nodes t a w)) (each a w))
+    (λ w. subst P (sym (arc-is t a w)) (each a w))
     (order (records t) a)
 
 module _ (nodes : ℕ) (t : List ℕ) (ok : tableFault nodes t ≡ good) where
   pub table-sound : Sound (netOf nodes t)
   table-sound =
       record {
-        to-below = at-every (λ x. x .to < nodes) nodes t (good-size nodes t ok .0) (λ a h. all-good nodes t ok a h .end);
-        positive = at-every (λ x. 0 < x .len) nodes t (omega arith) (λ a h. all-good nodes t ok a h .least);
+        to-below = at-every (λ x. x .to < nodes) t (good-size nodes t ok .0) (λ a h. all-good nodes t ok a h .end);
+        positive = at-every (λ x. 0 < x .len) t (omega arith) (λ a h. all-good nodes t ok a h .least);
       }
 
-  pub len-most : (a : ℕ) → arc (netOf nodes t) a .len ≤ mostLength
-  len-most = at-every (λ x. x .len ≤ mostLength) nodes t (omega arith) (λ a h. all-good nodes t ok a h .most)
+  pub len-most : (a : ℕ) → arc (arcsOf t) a .len ≤ mostLength
+  len-most = at-every (λ x. x .len ≤ mostLength) t (omega arith) (λ a h. all-good nodes t ok a h .most)
 
-  pub from-below : (a : ℕ) → arc (netOf nodes t) a .from < nodes
-  from-below = at-every (λ x. x .from < nodes) nodes t (good-size nodes t ok .0) (λ a h. all-good nodes t ok a h .start)
+  pub from-below : (a : ℕ) → arc (arcsOf t) a .from < nodes
+  from-below = at-every (λ x. x .from < nodes) t (good-size nodes t ok .0) (λ a h. all-good nodes t ok a h .start)
 
-  pub no-loop : (a : ℕ) → a < records t → arc (netOf nodes t) a .from ≡ arc (netOf nodes t) a .to → ⊥
-  no-loop a h = subst (λ x. x .from ≡ x .to → ⊥) (sym (arc-is nodes t a h)) (all-good nodes t ok a h .moves)
+  pub no-loop : (a : ℕ) → a < records t → arc (arcsOf t) a .from ≡ arc (arcsOf t) a .to → ⊥
+  no-loop a h = subst (λ x. x .from ≡ x .to → ⊥) (sym (arc-is t a h)) (all-good nodes t ok a h .moves)

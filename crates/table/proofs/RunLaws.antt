@@ -50,7 +50,7 @@ module _ (t : List ℕ) (v : ℕ) where
 module _ (nodes : ℕ) (t : List ℕ) (ok : tableFault nodes t ≡ good) where
   -- records stand in order of start node, at any distance
   in-order : (d i : ℕ) → i + d < records t → fromAt t i ≤ fromAt t (i + d)
-  in-order zero i h = rw add-zero (omega arith)
+  in-order zero i h = rw (add-zero i) (omega arith)
   in-order (suc d) i h =
       let e : i + suc d ≡ i + d + 1 = omega arith in
       let g : prevOf t (i + d + 1) ≤ fromAt t (i + d + 1) = all-good nodes t ok (i + d + 1) (omega arith) .sorted in
@@ -86,12 +86,12 @@ module _ (nodes : ℕ) (t : List ℕ) (ok : tableFault nodes t ≡ good) where
       inside : Leaves (netOf nodes t) v a → (runStart t v ≤ a) × (a < runStart t (v + 1))
       inside l =
           let h : a < records t = omega (arith, arcs-length t, l .is-arc) in
-          run-has v a h (rw (arc-is nodes t a h) at (l .starts))
+          run-has v a h (rw (arc-is t a h) at (l .starts))
 
       outside : runStart t v ≤ a → a < runStart t (v + 1) → Leaves (netOf nodes t) v a
       outside p q =
           let h : a < records t = omega (arith, run-le t (v + 1)) in
-          record { is-arc = omega (arith, arcs-length t); is-usable = tt; starts = rw (arc-is nodes t a h) (run-is v a p q) }
+          record { is-arc = omega (arith, arcs-length t); is-usable = tt; starts = rw (arc-is t a h) (run-is v a p q) }
 
 -- ---- the part that is handed out
 
@@ -113,7 +113,6 @@ module _ (t : List ℕ) (v : ℕ) where
       num-take 4 n (drop m t) (j * 16 + o) (omega (arith, run-records)) ∙ num-drop 4 m t (j * 16 + o) ∙ ap (num 4 t) at
 
   pub run-arc : (j : ℕ) → j < records (runOf t v) → arcAt (runOf t v) j ≡ arcAt t (runStart t v + j)
-  unfolding fromAt toAt lenAt
   run-arc j h = cc (run-field 0 j (omega arith) h, run-field 4 j (omega arith) h, run-field 8 j (omega arith) h)
 
 module _ (nodes : ℕ) (t : List ℕ) (v : ℕ) where

@@ -5,20 +5,19 @@ use Prim.Native.Nat.{ℕ, zero, suc, _+_, _%_}
 use lib.Dec.{ltb, leb, eqb}
 use lib.ListN.{length}
 use Rattle.net.specs.Limits.{mostNodes, mostArcs, mostLength}
-use Rattle.net.specs.Outcome.{Told}
+use Rattle.outcome.specs.declared.Told.{Told}
+use Rattle.outcome.specs.Outcome.{found, node, loop, lengthOut, zeros, order, size, plain, beside}
 use Rattle.table.specs.Table.{recordBytes, records, fromAt, toAt, lenAt, zerosAt}
-use Rattle.table.specs.declared.fault.TableCheck.{TableCheck}
-use Rattle.table.specs.declared.fault.TableCheck.the-variants.{Good, Size, Node, Loop, Length, Zeros, Order}
 
 -- 2: "a record names a node not below the node count"; 3: "a record starts and ends at one node"; 4: "a length is outside its limits"; 5: "bytes 12 to 15 are
 -- not all zero"; 6: "a record's start node is below the one before it", which is prev. "in it the lowest of 2 to 6"; 0: none of them.
 unfoldable pub faultOf : ℕ → ℕ → ℕ → ℕ → ℕ → ℕ → ℕ
-faultOf nodes prev from to len zeros =
-    cond (leb nodes from || leb nodes to) 2
-    (cond (eqb from to) 3
-    (cond (not (leb 1 len && leb len mostLength)) 4
-    (cond (not (eqb zeros 0)) 5
-    (cond (ltb from prev) 6 0))))
+faultOf nodes prev from to len rest =
+    cond (leb nodes from || leb nodes to) node
+    (cond (eqb from to) loop
+    (cond (not (leb 1 len && leb len mostLength)) lengthOut
+    (cond (not (eqb rest 0)) zeros
+    (cond (ltb from prev) order 0))))
 
 -- The start node of the record before number i; the first record is below none.
 unfoldable pub prevOf : List ℕ → ℕ → ℕ
@@ -30,13 +29,13 @@ unfolding faultOf prevOf
 faultAt nodes t i = faultOf nodes (prevOf t i) (fromAt t i) (toAt t i) (lenAt t i) (zerosAt t i)
 
 abbrev pub good : Told
-good = record { outcome = 0; number = 0 }
+good = plain found
 
 -- "The lowest faulty record decides, and in it the lowest of 2 to 6; its number is returned": of the n records from i on.
 unfoldable pub lowest : ℕ → ℕ → List ℕ → ℕ → Told
 unfolding faultAt
 lowest zero nodes t i = good
-lowest (suc n) nodes t i = cond (eqb (faultAt nodes t i) 0) (lowest n nodes t (i + 1)) (record { outcome = faultAt nodes t i; number = i })
+lowest (suc n) nodes t i = cond (eqb (faultAt nodes t i) 0) (lowest n nodes t (i + 1)) (beside (faultAt nodes t i) i)
 
 -- 13: "node count outside its limits, table bytes not a multiple of 16, or too many records"
 unfoldable pub wrongSize : ℕ → List ℕ → Bool
@@ -45,14 +44,4 @@ wrongSize nodes t = not (leb 1 nodes && leb nodes mostNodes) || not (eqb (length
 -- "Order: 13 first, then the records."
 unfoldable pub tableFault : ℕ → List ℕ → Told
 unfolding wrongSize lowest
-tableFault nodes t = cond (wrongSize nodes t) (record { outcome = 13; number = 0 }) (lowest (records t) nodes t 0)
-
--- The outcome of each case of `check`'s answer, and the number beside it.
-abbrev pub told : TableCheck → Told
-told Good = good
-told Size = record { outcome = 13; number = 0 }
-told (Node i) = record { outcome = 2; number = i }
-told (Loop i) = record { outcome = 3; number = i }
-told (Length i) = record { outcome = 4; number = i }
-told (Zeros i) = record { outcome = 5; number = i }
-told (Order i) = record { outcome = 6; number = i }
+tableFault nodes t = cond (wrongSize nodes t) (plain size) (lowest (records t) nodes t 0)

@@ -10,7 +10,7 @@ use Rattle.table.specs.Fault.{tableFault}
 
 -- "Records stand in order of start node": the first record that starts at v or above, or the number of records. The run of v ends where that of v + 1 starts.
 unfoldable pub runStart : List ℕ → ℕ → ℕ
-unfolding firstAt fromAt
+unfolding firstAt
 runStart t v = firstAt (λ i. leb v (fromAt t i)) (records t) 0
 
 -- "exactly the run of records with that start node"

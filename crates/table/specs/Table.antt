@@ -1,11 +1,11 @@
 -- The road table of document 01: from bytes to arcs.
 use mathlib.Core.Bool.{cond}
-use mathlib.Core.List.{List}
+use mathlib.Core.List.{List, [], _∷_, _++_, flatMap}
 use Prim.Native.Nat.{ℕ, _+_, _*_, _/_}
 use lib.Dec.{ltb}
 use lib.ListN.{length}
 use Rattle.lists.specs.Index.{tab}
-use Rattle.words.specs.Number.{num, put}
+use Rattle.words.specs.Number.{num, put, bytesOf}
 use Rattle.net.specs.Net.{Arc, Net, plain}
 
 -- "Arc records are 16 bytes each, with no header"
@@ -16,16 +16,16 @@ abbrev pub records : List ℕ → ℕ
 records t = length t / recordBytes
 
 -- "little-endian: start node (bytes 0 to 3), end node (4 to 7), length (8 to 11), and four bytes that are zero (12 to 15)"
-unfoldable pub fromAt : List ℕ → ℕ → ℕ
+abbrev pub fromAt : List ℕ → ℕ → ℕ
 fromAt t i = num 4 t (i * recordBytes + 0)
 
-unfoldable pub toAt : List ℕ → ℕ → ℕ
+abbrev pub toAt : List ℕ → ℕ → ℕ
 toAt t i = num 4 t (i * recordBytes + 4)
 
-unfoldable pub lenAt : List ℕ → ℕ → ℕ
+abbrev pub lenAt : List ℕ → ℕ → ℕ
 lenAt t i = num 4 t (i * recordBytes + 8)
 
-unfoldable pub zerosAt : List ℕ → ℕ → ℕ
+abbrev pub zerosAt : List ℕ → ℕ → ℕ
 zerosAt t i = num 4 t (i * recordBytes + 12)
 
 abbrev pub arcAt : List ℕ → ℕ → Arc
@@ -39,12 +39,27 @@ arcsOf t = tab (records t) (arcAt t)
 abbrev pub netOf : ℕ → List ℕ → Net
 netOf nodes t = plain nodes (arcsOf t)
 
+-- The record of an arc, and the table of arcs.
+unfoldable pub recordOf : Arc → List ℕ
+unfolding bytesOf
+recordOf x = bytesOf 4 (x .from) ++ (bytesOf 4 (x .to) ++ (bytesOf 4 (x .len) ++ bytesOf 4 0))
+
+unfoldable pub tableOf : List Arc → List ℕ
+unfolding recordOf flatMap
+tableOf xs = flatMap recordOf xs
+
 -- The bytes with record i made of an arc; bytes 12 to 15 of the record stay.
 unfoldable pub putArc : List ℕ → ℕ → Arc → List ℕ
 unfolding put
 putArc t i x = put 4 (put 4 (put 4 t (i * recordBytes + 0) (x .from)) (i * recordBytes + 4) (x .to)) (i * recordBytes + 8) (x .len)
 
--- The same, where there is such a record; else the bytes as they are.
-unfoldable pub withArc : List ℕ → ℕ → Arc → List ℕ
+-- The bytes with the records from i on made of arcs.
+unfoldable pub putArcs : List ℕ → ℕ → List Arc → List ℕ
 unfolding putArc
-withArc t i x = cond (ltb i (records t)) (putArc t i x) t
+putArcs t i [] = t
+putArcs t i (x ∷ xs) = putArcs (putArc t i x) (i + 1) xs
+
+-- The same, where there is such a record; else the bytes as they are.
+unfoldable pub withRecord : List ℕ → ℕ → Arc → List ℕ
+unfolding putArc
+withRecord t i x = cond (ltb i (records t)) (putArc t i x) t

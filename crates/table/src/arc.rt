@@ -2,7 +2,8 @@
 ghost use mathlib.Core.Path.{_≡_};
 ghost use Prim.Native.Nat.{_+_, _*_, _≤_, _<_};
 ghost use lib.ListN.{length};
-ghost use Rattle.table.specs.Table.{records, fromAt, toAt, lenAt, zerosAt, recordBytes, putArc, withArc};
+ghost use Rattle.table.specs.Table.{records, fromAt, toAt, lenAt, zerosAt, recordBytes};
+ghost use Rattle.table.specs.Table.{putArc, withRecord};
 
 pub const RECORD: usize = 16;
 
@@ -14,49 +15,51 @@ const LENGTH: usize = 8;
 
 const ZEROS: usize = 12;
 
-pub fn from_of(t: &[u8], a: usize) -> u32
-    requires { ⌜ a < records (now t) ⌝ }
-    ensures { λ r. ⌜ r ≡ fromAt (now (t .entry)) a ⌝ }
+pub fn from_of(table: &[u8], arc: usize) -> u32
+    requires { ⌜ arc < records (now table) ⌝ }
+    ensures { λ r. ⌜ r ≡ fromAt (now (table .entry)) arc ⌝ }
 {
-    words::number::read32(t, a * RECORD + FROM)
+    words::number::read32(table, arc * RECORD + FROM)
 }
 
-pub fn to_of(t: &[u8], a: usize) -> u32
-    requires { ⌜ a < records (now t) ⌝ }
-    ensures { λ r. ⌜ r ≡ toAt (now (t .entry)) a ⌝ }
+pub fn to_of(table: &[u8], arc: usize) -> u32
+    requires { ⌜ arc < records (now table) ⌝ }
+    ensures { λ r. ⌜ r ≡ toAt (now (table .entry)) arc ⌝ }
 {
-    words::number::read32(t, a * RECORD + TO)
+    words::number::read32(table, arc * RECORD + TO)
 }
 
-pub fn length_of(t: &[u8], a: usize) -> u32
-    requires { ⌜ a < records (now t) ⌝ }
-    ensures { λ r. ⌜ r ≡ lenAt (now (t .entry)) a ⌝ }
+pub fn length_of(table: &[u8], arc: usize) -> u32
+    requires { ⌜ arc < records (now table) ⌝ }
+    ensures { λ r. ⌜ r ≡ lenAt (now (table .entry)) arc ⌝ }
 {
-    words::number::read32(t, a * RECORD + LENGTH)
+    words::number::read32(table, arc * RECORD + LENGTH)
 }
 
-pub fn zeros_of(t: &[u8], a: usize) -> u32
-    requires { ⌜ a < records (now t) ⌝ }
-    ensures { λ r. ⌜ r ≡ zerosAt (now (t .entry)) a ⌝ }
+pub fn zeros_of(table: &[u8], arc: usize) -> u32
+    requires { ⌜ arc < records (now table) ⌝ }
+    ensures { λ r. ⌜ r ≡ zerosAt (now (table .entry)) arc ⌝ }
 {
-    words::number::read32(t, a * RECORD + ZEROS)
+    words::number::read32(table, arc * RECORD + ZEROS)
 }
 
 // An arc as record i. Bytes 12 to 15 of the record stay.
-pub fn write(t: &mut [u8], i: usize, from: u32, to: u32, len: u32)
-    requires { ⌜ i * recordBytes + recordBytes ≤ length (now t) ⌝ }
-    ensures { λ _. ⌜ now (t .exit) ≡ putArc (now (t .entry)) i (record { from = from; to = to; len = len }) ⌝ }
+pub fn write(table: &mut [u8], i: usize, from: u32, to: u32, len: u32)
+    requires { ⌜ i * recordBytes + recordBytes ≤ length (now table) ⌝ }
+    ensures { λ _. ⌜ now (table .exit)
+        ≡ putArc (now (table .entry)) i (record { from = from; to = to; len = len }) ⌝ }
 {
-    words::number::write32(t, i * RECORD + FROM, from);
-    words::number::write32(t, i * RECORD + TO, to);
-    words::number::write32(t, i * RECORD + LENGTH, len);
+    words::number::write32(table, i * RECORD + FROM, from);
+    words::number::write32(table, i * RECORD + TO, to);
+    words::number::write32(table, i * RECORD + LENGTH, len);
 }
 
 // The same for any number: where there is no such record, nothing is written.
-pub fn put(t: &mut [u8], i: usize, from: u32, to: u32, len: u32)
-    ensures { λ _. ⌜ now (t .exit) ≡ withArc (now (t .entry)) i (record { from = from; to = to; len = len }) ⌝ }
+pub fn put(table: &mut [u8], i: usize, from: u32, to: u32, len: u32)
+    ensures { λ _. ⌜ now (table .exit)
+        ≡ withRecord (now (table .entry)) i (record { from = from; to = to; len = len }) ⌝ }
 {
-    if i < t.len() / RECORD {
-        write(t, i, from, to, len);
+    if i < table.len() / RECORD {
+        write(table, i, from, to, len);
     }
 }

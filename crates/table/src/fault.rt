@@ -1,21 +1,11 @@
 // The faults of a table: 13, then the lowest of 2 to 6 in the lowest faulty record.
 use crate::arc;
+use outcome::Told;
 ghost use mathlib.Core.Path.{_≡_};
-ghost use Prim.Native.Nat.{_+_, _-_, _*_, _%_, _≤_, _<_};
-ghost use lib.ListN.{length};
+ghost use Prim.Native.Nat.{_≤_};
 ghost use Rattle.net.specs.Limits.{mostArcs};
 ghost use Rattle.table.specs.Table.{records};
-ghost use Rattle.table.specs.Fault.{faultOf, lowest, tableFault, told};
-
-pub enum TableCheck {
-    Good,
-    Size,
-    Node(u32),
-    Loop(u32),
-    Length(u32),
-    Zeros(u32),
-    Order(u32),
-}
+ghost use Rattle.table.specs.Fault.{faultOf, lowest, wrongSize, tableFault};
 
 pub const MOST_NODES: u32 = 4096;
 
@@ -24,95 +14,89 @@ pub const MOST_ARCS: usize = 16384;
 pub const MOST_LENGTH: u32 = 1000000;
 
 // The lowest fault of a record, or 0.
-fn fault_of(nodes: u32, prev: u32, from: u32, to: u32, len: u32, zeros: u32) -> u8
+fn fault_of(nodes: u32, prev: u32, from: u32, to: u32, len: u32, zeros: u32) -> u32
     ensures { λ r. ⌜ r ≡ faultOf nodes prev from to len zeros ⌝ }
 {
     if nodes <= from {
-        return 2;
+        return outcome::NODE;
     }
     if nodes <= to {
-        return 2;
+        return outcome::NODE;
     }
     if from == to {
-        return 3;
+        return outcome::LOOP;
     }
     if len < 1 {
-        return 4;
+        return outcome::LENGTH;
     }
     if MOST_LENGTH < len {
-        return 4;
+        return outcome::LENGTH;
     }
     if zeros != 0 {
-        return 5;
+        return outcome::ZEROS;
     }
     if from < prev {
-        return 6;
+        return outcome::ORDER;
     }
     0
 }
 
-// The answer for fault f in record i.
-fn named(f: u8, i: u32) -> TableCheck
-    requires { ⌜ (2 ≤ f) × (f ≤ 6) ⌝ }
-    ensures { λ r. ⌜ told r ≡ record { outcome = f; number = i } ⌝ }
-{
-    if f == 2 {
-        return TableCheck::Node(i);
-    }
-    if f == 3 {
-        return TableCheck::Loop(i);
-    }
-    if f == 4 {
-        return TableCheck::Length(i);
-    }
-    if f == 5 {
-        return TableCheck::Zeros(i);
-    }
-    TableCheck::Order(i)
-}
-
 // The lowest fault of the lowest faulty record.
-fn check_records(t: &[u8], nodes: u32) -> TableCheck
-    requires { ⌜ records (now t) ≤ mostArcs ⌝ }
-    ensures { λ r. ⌜ told r ≡ lowest (records (now (t .entry))) nodes (now (t .entry)) 0 ⌝ }
+fn check_records(table: &[u8], nodes: u32) -> Told
+    requires { ⌜ records (now table) ≤ mostArcs ⌝ }
+    ensures { λ r. ⌜ r
+        ≡ lowest (records (now (table .entry))) nodes (now (table .entry)) 0 ⌝ }
 {
-    let n = t.len() / arc::RECORD;
+    let n = table.len() / arc::RECORD;
     let mut prev = 0u32;
     let mut i = 0;
     while i < n {
-        let from = arc::from_of(t, i);
+        let from = arc::from_of(table, i);
         let f = fault_of(
             nodes,
             prev,
             from,
-            arc::to_of(t, i),
-            arc::length_of(t, i),
-            arc::zeros_of(t, i),
+            arc::to_of(table, i),
+            arc::length_of(table, i),
+            arc::zeros_of(table, i),
         );
         if f != 0 {
-            return named(f, i as u32);
+            return Told {
+                outcome: f,
+                number: i as u32,
+            };
         }
         prev = from;
         i += 1;
     }
-    TableCheck::Good
+    Told {
+        outcome: 0,
+        number: 0,
+    }
+}
+
+// Whether the node count or the number of bytes is outside its limits.
+fn wrong_size(table: &[u8], nodes: u32) -> bool
+    ensures { λ r. ⌜ r ≡ wrongSize nodes (now (table .entry)) ⌝ }
+{
+    if nodes < 1 {
+        return true;
+    }
+    if MOST_NODES < nodes {
+        return true;
+    }
+    if table.len() % arc::RECORD != 0 {
+        return true;
+    }
+    MOST_ARCS < table.len() / arc::RECORD
 }
 
 // The fault of a table of so many nodes.
-pub fn check(t: &[u8], nodes: u32) -> TableCheck
-    ensures { λ r. ⌜ told r ≡ tableFault nodes (now (t .entry)) ⌝ }
+pub fn check(table: &[u8], nodes: u32) -> Told
+    ensures { λ r. ⌜ r ≡ tableFault nodes (now (table .entry)) ⌝ }
 {
-    if nodes < 1 {
-        return TableCheck::Size;
+    if wrong_size(table, nodes) {
+        return outcome::plain(outcome::SIZE);
     }
-    if MOST_NODES < nodes {
-        return TableCheck::Size;
-    }
-    if t.len() % arc::RECORD != 0 {
-        return TableCheck::Size;
-    }
-    if MOST_ARCS < t.len() / arc::RECORD {
-        return TableCheck::Size;
-    }
-    check_records(t, nodes)
+    check_records(table, nodes)
 }

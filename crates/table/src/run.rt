@@ -1,23 +1,23 @@
 // The run of records that start at a node.
 use crate::arc;
 use crate::fault;
-use crate::fault::TableCheck;
 ghost use mathlib.Core.Path.{_≡_};
 ghost use Prim.Native.Nat.{_≤_, _<_};
 ghost use Rattle.net.specs.Net.{everyArc};
 ghost use Rattle.table.specs.Fault.{tableFault, good};
 ghost use Rattle.table.specs.Run.{runStart, runOf, arcsFrom, nextArc};
 
-// Where the run of node v starts in a good table, in as many turns as the number of records has bits; `nodes` is the table's node count.
-pub fn run_start(t: &[u8], nodes: u32, v: u32) -> usize
-    requires { ⌜ tableFault nodes (now t) ≡ good ⌝ }
-    ensures { λ r. ⌜ r ≡ runStart (now (t .entry)) v ⌝ }
+// Where the run of node v starts in a good table, in as many turns as the number of records has
+// bits; `nodes` is the table's node count.
+pub fn run_start(table: &[u8], nodes: u32, v: u32) -> usize
+    requires { ⌜ tableFault nodes (now table) ≡ good ⌝ }
+    ensures { λ r. ⌜ r ≡ runStart (now (table .entry)) v ⌝ }
 {
     let mut lo = 0;
-    let mut hi = t.len() / arc::RECORD;
+    let mut hi = table.len() / arc::RECORD;
     while lo < hi {
         let mid = lo + (hi - lo) / 2;
-        if arc::from_of(t, mid) < v {
+        if arc::from_of(table, mid) < v {
             lo = mid + 1;
         } else {
             hi = mid;
@@ -27,33 +27,35 @@ pub fn run_start(t: &[u8], nodes: u32, v: u32) -> usize
 }
 
 // The run of node v in a good table.
-pub fn run_of(t: &[u8], nodes: u32, v: u32) -> &[u8]
-    requires { ⌜ (tableFault nodes (now t) ≡ good) × (v < nodes) ⌝ }
-    ensures { λ r. ⌜ now r ≡ runOf (now (t .entry)) v ⌝ }
+pub fn run_of(table: &[u8], nodes: u32, v: u32) -> &[u8]
+    requires { ⌜ (tableFault nodes (now table) ≡ good) × (v < nodes) ⌝ }
+    ensures { λ r. ⌜ now r ≡ runOf (now (table .entry)) v ⌝ }
 {
-    let a = run_start(t, nodes, v) * arc::RECORD;
-    let e = run_start(t, nodes, v + 1) * arc::RECORD;
-    &t[a..e]
+    let from = run_start(table, nodes, v) * arc::RECORD;
+    let to = run_start(table, nodes, v + 1) * arc::RECORD;
+    &table[from..to]
 }
 
-// The arcs that leave node v, as a part of the table; an empty part where the table has a fault or v is no node.
-pub fn arcs_from(t: &[u8], nodes: u32, v: u32) -> &[u8]
-    ensures { λ r. ⌜ now r ≡ arcsFrom nodes (now (t .entry)) v ⌝ }
+// The arcs that leave node v, as a part of the table; an empty part where the table has a fault or
+// v is no node.
+pub fn arcs_from(table: &[u8], nodes: u32, v: u32) -> &[u8]
+    ensures { λ r. ⌜ now r ≡ arcsFrom nodes (now (table .entry)) v ⌝ }
 {
     if nodes <= v {
-        return &t[0..0];
+        return &table[0..0];
     }
-    let c = fault::check(t, nodes);
-    match c {
-        TableCheck::Good => run_of(t, nodes, v),
-        _ => &t[0..0],
+    let told = fault::check(table, nodes);
+    if told.outcome != outcome::FOUND {
+        return &table[0..0];
     }
+    run_of(table, nodes, v)
 }
 
-// The arc that comes next from place a of a run that ends at e, or e. No road is closed, so each comes next.
-pub fn next_arc(a: usize, e: usize) -> usize
-    requires { ⌜ a ≤ e ⌝ }
-    ensures { λ r. ⌜ r ≡ nextArc everyArc a e ⌝ }
+// The arc that comes next from place `arc` of a run that ends at `end`, or `end`. No road is
+// closed, so each comes next.
+pub fn next_arc(arc: usize, end: usize) -> usize
+    requires { ⌜ arc ≤ end ⌝ }
+    ensures { λ r. ⌜ r ≡ nextArc everyArc arc end ⌝ }
 {
-    a
+    arc
 }

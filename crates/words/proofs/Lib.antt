@@ -1,4 +1,5 @@
 pub mod PartLaws
 pub mod NumberLaws
 pub mod RecordLaws
+pub mod BytesLaws
 pub mod FillLaws

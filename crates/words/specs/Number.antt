@@ -1,5 +1,5 @@
 -- Numbers in bytes, little-endian, at any width.
-use mathlib.Core.List.{List}
+use mathlib.Core.List.{List, [], _∷_, _++_}
 use Prim.Native.Nat.{ℕ, zero, suc, _+_, _*_, _/_, _%_, _^_}
 use lib.ListN.{getD, set}
 
@@ -12,3 +12,8 @@ num (suc k) l at = num k l at + getD l (at + k) 0 * 2 ^ (8 * k)
 unfoldable pub put : ℕ → List ℕ → ℕ → ℕ → List ℕ
 put zero l at v = l
 put (suc k) l at v = set (put k l at v) (at + k) (v / 2 ^ (8 * k) % 256)
+
+-- the k bytes that hold v
+unfoldable pub bytesOf : ℕ → ℕ → List ℕ
+bytesOf zero v = []
+bytesOf (suc k) v = bytesOf k v ++ (v / 2 ^ (8 * k) % 256 ∷ [])

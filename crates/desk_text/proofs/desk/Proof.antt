@@ -9,14 +9,8 @@ use Rattle.desk_text.proofs.desk.Tie as tie
 returns : tie.Need-returns
 returns c = record { due = λ h. absurd (omega (arith, c .if1 .taken)); small = λ h. (refl, refl) }
 
-answer-requires : tie.Need-answer-requires
-answer-requires c κs = search needs
-
-same-length : tie.Need-same-length
-same-length c = search needs
-
 returns-2 : tie.Need-returns-2
 returns-2 c = record { due = λ h. c .before .before .answer .ensures; small = λ h. absurd (omega (arith, c .before .before .before .before .if1 .left)) }
 
 pub desk-spec : {M : Type 1} → statement M
-desk-spec = tie.close (tie.spec returns answer-requires same-length returns-2)
+desk-spec = tie.close (tie.spec returns (λ c κs. search needs) (λ c. search needs) returns-2)

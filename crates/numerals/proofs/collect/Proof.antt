@@ -43,35 +43,11 @@ unfolding value
 loop-holds c =
     (omega (arith, c .before .pre .0), omega arith, refl, refl)
 
-digit-at-requires : tie.Need-digit-at-requires Inv-loop μ-loop
-digit-at-requires c κs = search needs
-
-mul-n : tie.Need-mul-n Inv-loop μ-loop
-mul-n c = omega arith
-
-shared-slice-read-n : tie.Need-shared-slice-read-n Inv-loop μ-loop
-shared-slice-read-n c = inside (c .before)
-
-sub-n : tie.Need-sub-n Inv-loop μ-loop
-sub-n c = omega (arith, range (c .before))
-
-cast-n : tie.Need-cast-n Inv-loop μ-loop
-cast-n c = omega (arith, range (c .before))
-
-add-n : tie.Need-add-n Inv-loop μ-loop
-add-n c = omega (arith, range (c .before))
-
 returns : tie.Need-returns Inv-loop μ-loop
 returns c =
     let d = c .before .before in
     let a = d .before .before in
     read-large (text a) (a .before .before .args .at) (a .loop .n) (a .loop .i) (a .loop .inv .2) (digit d) (omega arith)
-
-add-i : tie.Need-add-i Inv-loop μ-loop
-add-i c = omega (arith, inside (c .before .before))
-
-loop-less : tie.Need-loop-less Inv-loop μ-loop
-loop-less c = omega (arith, inside (c .before .before))
 
 loop-again : tie.Need-loop-again Inv-loop μ-loop
 loop-again c =
@@ -82,9 +58,6 @@ loop-again c =
       sym (value-more (text a) (a .loop .i) (a .loop .n) (digit d)) ∙ a .loop .inv .2,
       omega (arith, length-more (text a) (a .loop .i) (digit d), a .loop .inv .3),
     )
-
-cast-t12 : tie.Need-cast-t12 Inv-loop μ-loop
-cast-t12 c = omega (arith, c .before .before .loop .inv .1)
 
 returns-2 : tie.Need-returns-2 Inv-loop μ-loop
 returns-2 c =
@@ -99,15 +72,15 @@ collect-spec =
     Inv-loop
     μ-loop
     loop-holds
-    digit-at-requires
-    mul-n
-    shared-slice-read-n
-    sub-n
-    cast-n
-    add-n
+    (λ c κs. search needs)
+    (λ c. omega arith)
+    (λ c. inside (c .before))
+    (λ c. omega (arith, range (c .before)))
+    (λ c. omega (arith, range (c .before)))
+    (λ c. omega (arith, range (c .before)))
     returns
-    add-i
-    loop-less
+    (λ c. omega (arith, inside (c .before .before)))
+    (λ c. omega (arith, inside (c .before .before)))
     loop-again
-    cast-t12
+    (λ c. omega (arith, c .before .before .loop .inv .1))
     returns-2)

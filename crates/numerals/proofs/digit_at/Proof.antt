@@ -9,12 +9,6 @@ use Rattle.numerals.proofs.ReadLaws.{digit-past}
 use Rattle.numerals.proofs.digit_at.Statement.{statement}
 use Rattle.numerals.proofs.digit_at.Tie as tie
 
-returns : tie.Need-returns
-returns c = sym (digit-past (c .before .args .text .now) (c .before .args .i) (omega arith))
-
-shared-slice-read-b : tie.Need-shared-slice-read-b
-shared-slice-read-b c = search needs
-
 returns-2 : tie.Need-returns-2
 returns-2 c =
     let s = c .before .before .before in
@@ -26,4 +20,4 @@ returns-3 c =
     rw (le-leb 48 (getD (s .args .text .now) (s .args .i) 0) (c .if2 .left))
 
 pub digit-at-spec : {M : Type 1} → statement M
-digit-at-spec = tie.close (tie.spec returns shared-slice-read-b returns-2 returns-3)
+digit-at-spec = tie.close (tie.spec (λ c. sym (digit-past (c .before .args .text .now) (c .before .args .i) (omega arith))) (λ c. search needs) returns-2 returns-3)

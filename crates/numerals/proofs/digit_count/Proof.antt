@@ -16,23 +16,11 @@ Inv-loop v k₀ w₀ k w = (w ≤ v) × (k + length (decimal w) ≡ 1 + length (
 abbrev μ-loop : tie.MeasureT-loop
 μ-loop v k₀ w₀ k w = w
 
-loop-holds : tie.Need-loop-holds Inv-loop μ-loop
-loop-holds c = search needs
-
-add-k : tie.Need-add-k Inv-loop μ-loop
-add-k c = omega (arith, decimal-length (c .before .before .args .v))
-
-loop-less : tie.Need-loop-less Inv-loop μ-loop
-loop-less c = omega arith
-
 loop-again : tie.Need-loop-again Inv-loop μ-loop
 loop-again c =
     let w = c .before .loop .w in
     (omega arith, omega (arith, simp length-append at (ap length (decimal-more w (omega arith) (omega arith)))))
 
-returns : tie.Need-returns Inv-loop μ-loop
-returns c = omega (arith, ap length (decimal-one (c .before .loop .w) (omega arith)))
-
 pub digit-count-spec : {M : Type 1} → statement M
 digit-count-spec =
-    tie.close (tie.spec Inv-loop μ-loop loop-holds add-k loop-less loop-again returns)
+    tie.close (tie.spec Inv-loop μ-loop (λ c. search needs) (λ c. omega (arith, decimal-length (c .before .before .args .v))) (λ c. omega arith) loop-again (λ c. omega (arith, ap length (decimal-one (c .before .loop .w) (omega arith)))))

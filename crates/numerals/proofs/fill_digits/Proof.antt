@@ -22,21 +22,6 @@ abbrev μ-loop : tie.MeasureT-loop
 loop-holds : tie.Need-loop-holds Inv-loop μ-loop
 loop-holds c = (omega arith, c .pre, omega arith, search needs, back-start (decimal (c .args .v)) (c .args .s .now))
 
-sub-k : tie.Need-sub-k Inv-loop μ-loop
-sub-k c = omega (arith, decimal-length (c .before .loop .w))
-
-add-s : tie.Need-add-s Inv-loop μ-loop
-add-s c = omega arith
-
-cast-s : tie.Need-cast-s Inv-loop μ-loop
-cast-s c = omega arith
-
-slice-write-s : tie.Need-slice-write-s Inv-loop μ-loop
-slice-write-s c = omega (arith, decimal-length (c .before .loop .w))
-
-loop-less : tie.Need-loop-less Inv-loop μ-loop
-loop-less c = omega arith
-
 loop-again : tie.Need-loop-again Inv-loop μ-loop
 loop-again c =
     let a = c .before in
@@ -47,18 +32,6 @@ loop-again c =
       simp length-set (a .loop .inv .3),
       write-step (a .loop .s) (a .loop .w) (a .loop .k) (a .loop .inv .1) (omega arith) (omega arith) (omega arith) ∙ a .loop .inv .4,
     )
-
-add-s-2 : tie.Need-add-s-2 Inv-loop μ-loop
-add-s-2 c = omega arith
-
-cast-s-2 : tie.Need-cast-s-2 Inv-loop μ-loop
-cast-s-2 c = omega arith
-
-slice-write-s-2 : tie.Need-slice-write-s-2 Inv-loop μ-loop
-slice-write-s-2 c = omega (arith, decimal-length (c .before .loop .w))
-
-same-length : tie.Need-same-length Inv-loop μ-loop
-same-length c = search needs
 
 returns : tie.Need-returns Inv-loop μ-loop
 returns c =
@@ -72,14 +45,14 @@ fill-digits-spec =
     Inv-loop
     μ-loop
     loop-holds
-    sub-k
-    add-s
-    cast-s
-    slice-write-s
-    loop-less
+    (λ c. omega (arith, decimal-length (c .before .loop .w)))
+    (λ c. omega arith)
+    (λ c. omega arith)
+    (λ c. omega (arith, decimal-length (c .before .loop .w)))
+    (λ c. omega arith)
     loop-again
-    add-s-2
-    cast-s-2
-    slice-write-s-2
-    same-length
+    (λ c. omega arith)
+    (λ c. omega arith)
+    (λ c. omega (arith, decimal-length (c .before .loop .w)))
+    (λ c. search needs)
     returns)

@@ -7,19 +7,10 @@ use Rattle.numerals.proofs.ReadLaws.{number-none}
 use Rattle.numerals.proofs.read.Statement.{statement}
 use Rattle.numerals.proofs.read.Tie as tie
 
-well-formed-requires : tie.Need-well-formed-requires
-well-formed-requires c κs = search needs
-
-collect-requires : tie.Need-collect-requires
-collect-requires c κs = (search needs, cc)
-
-returns : tie.Need-returns
-returns c = search needs
-
 returns-2 : tie.Need-returns-2
 returns-2 c =
     let s = c .before .before .before in
     sym (number-none (drop (s .args .at) (s .args .text .now)) (sym (c .before .well-formed .ensures) ∙ c .if1 .left))
 
 pub read-spec : {M : Type 1} → statement M
-read-spec = tie.close (tie.spec well-formed-requires collect-requires returns returns-2)
+read-spec = tie.close (tie.spec (λ c κs. search needs) (λ c κs. (search needs, cc)) (λ c. search needs) returns-2)

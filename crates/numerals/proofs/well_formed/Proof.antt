@@ -13,9 +13,6 @@ use Rattle.numerals.proofs.ReadLaws.{digit-in, formed-none, formed-lead
 use Rattle.numerals.proofs.well_formed.Statement.{statement}
 use Rattle.numerals.proofs.well_formed.Tie as tie
 
-digit-at-requires : tie.Need-digit-at-requires
-digit-at-requires c κs = search needs
-
 returns : tie.Need-returns
 returns c =
     let s = c .before .before .before in
@@ -33,19 +30,10 @@ digit c = sym (c .before .digit-at .ensures) ∙ not-false _ (c .if1 .left)
 inside : (c : tie.Else1) → at c < length (text c)
 inside c = digit-in (text c) (at c) (digit c)
 
-shared-slice-read-if2 : tie.Need-shared-slice-read-if2
-shared-slice-read-if2 c = inside (c .before)
-
 returns-2 : tie.Need-returns-2
 returns-2 c =
     let e = c .before .before in
     sym (formed-lead (text e) (at e) (digit e) (λ z. omega arith))
-
-add-digit-at : tie.Need-add-digit-at
-add-digit-at c = omega (arith, inside (c .before .before))
-
-digit-at-requires-2 : tie.Need-digit-at-requires-2
-digit-at-requires-2 c κs = search needs
 
 returns-3 : tie.Need-returns-3
 returns-3 c =
@@ -56,10 +44,10 @@ pub well-formed-spec : {M : Type 1} → statement M
 well-formed-spec =
     tie.close
     (tie.spec
-    digit-at-requires
+    (λ c κs. search needs)
     returns
-    shared-slice-read-if2
+    (λ c. inside (c .before))
     returns-2
-    add-digit-at
-    digit-at-requires-2
+    (λ c. omega (arith, inside (c .before .before)))
+    (λ c κs. search needs)
     returns-3)

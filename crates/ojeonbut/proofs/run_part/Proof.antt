@@ -8,42 +8,30 @@ use Rattle.ojeonbut.specs.Exported.{runPart}
 use Rattle.ojeonbut.proofs.run_part.Statement.{statement}
 use Rattle.ojeonbut.proofs.run_part.Tie as tie
 
-run-start-requires : tie.Need-run-start-requires
-run-start-requires c κs = search needs
-
 mul-place : tie.Need-mul-place
 mul-place c =
     let s = c .before .before in
-    omega (arith, run-le (s .args .t .now) (s .args .v))
-
-add-run-start : tie.Need-add-run-start
-add-run-start c = search needs
-
-run-start-requires-2 : tie.Need-run-start-requires-2
-run-start-requires-2 c κs = search needs
+    omega (arith, run-le (s .args .table .now) (s .args .v))
 
 mul-end : tie.Need-mul-end
 mul-end c =
     let s = c .before .before .before in
-    omega (arith, run-le (s .args .t .now) (s .args .v + 1))
+    omega (arith, run-le (s .args .table .now) (s .args .v + 1))
 
 sub-t6 : tie.Need-sub-t6
 sub-t6 c =
     let s = c .before .before .before in
-    omega (arith, run-mono (s .args .t .now) (s .args .v))
-
-returns : tie.Need-returns
-unfolding runPart
-returns c = cc
+    omega (arith, run-mono (s .args .table .now) (s .args .v))
 
 pub run-part-spec : {M : Type 1} → statement M
+unfolding runPart
 run-part-spec =
     tie.close
     (tie.spec
-    run-start-requires
+    (λ c κs. search needs)
     mul-place
-    add-run-start
-    run-start-requires-2
+    (λ c. search needs)
+    (λ c κs. search needs)
     mul-end
     sub-t6
-    returns)
+    (λ c. cc))

@@ -5,23 +5,11 @@ use native.Mathlib.Omega.{arith}
 use lib.ListN.{length-set}
 use borrow.Author.Needs.{needs}
 use Rattle.numerals.specs.Decimal.{decimal}
-use Rattle.output.specs.Line.{space}
-use Rattle.output.proofs.AppendLaws.{appended-length, appended-by, appended-none, appended-one, appended-more}
+use Rattle.desk_output.specs.Line.{space}
+use Rattle.desk_output.proofs.AppendLaws.{appended-length, appended-by, appended-none, appended-one, appended-more}
 use Rattle.desk_text.proofs.TextLaws.{beside-some, beside-none, beside-length}
 use Rattle.desk_text.proofs.print.beside.Statement.{statement}
 use Rattle.desk_text.proofs.print.beside.Tie as tie
-
-has-number-requires : tie.Need-has-number-requires
-has-number-requires c κs = search needs
-
-slice-write-out : tie.Need-slice-write-out
-slice-write-out c = search needs
-
-add-write : tie.Need-add-write
-add-write c = search needs
-
-write-requires : tie.Need-write-requires
-write-requires c κs = simp length-set (omega arith)
 
 returns : tie.Need-returns
 returns c =
@@ -46,10 +34,10 @@ pub beside-spec : {M : Type 1} → statement M
 beside-spec =
     tie.close
     (tie.spec
-    has-number-requires
-    slice-write-out
-    add-write
-    write-requires
+    (λ c κs. search needs)
+    (λ c. search needs)
+    (λ c. search needs)
+    (λ c κs. simp length-set (omega arith))
     same-length
     returns
     returns-2)

@@ -6,7 +6,7 @@ use native.Mathlib.Nat.{mul-le-mul-right}
 use native.Mathlib.Omega.{arith}
 use borrow.Author.Needs.{needs}
 use Rattle.summary.specs.declared.Summary.{Summary}
-use Rattle.output.proofs.AppendLaws.{appended-more}
+use Rattle.desk_output.proofs.AppendLaws.{appended-more}
 use Rattle.desk_text.proofs.TextLaws.{head-length, lines-length}
 use Rattle.desk_text.proofs.RoundsLaws.{end-full, end-less}
 use Rattle.desk_text.proofs.print.ended.Statement.{statement}
@@ -21,12 +21,6 @@ counted h = h .before .before
 
 abbrev headed : tie.After-lines → tie.After-head
 headed l = l .before .before .before .before
-
-leading-requires : tie.Need-leading-requires
-leading-requires c κs = search needs
-
-head-requires : tie.Need-head-requires
-head-requires c κs = search needs
 
 head-most : (h : tie.After-head) → h .head .result ≤ 53
 head-most h = omega (arith, h .head .ensures .place, head-length (start (counted h) .args .outcome) (counted h .leading .result))
@@ -45,9 +39,6 @@ lines-requires c κs =
       λ j g. s .pre .4 j (omega arith),
     )
 
-at-requires : tie.Need-at-requires
-at-requires c κs = search needs
-
 none-requires : tie.Need-none-requires
 none-requires c κs =
     let l = c .before .before .before .before .before in
@@ -56,9 +47,6 @@ none-requires c κs =
     let s = start n in
     let f = n .leading .ensures .few in
     omega (arith, head-most h, l .lines .ensures .place, lines-length (s .args .sums) (s .args .w) (s .args .area .now) (n .leading .result) (λ j g. s .pre .4 j (omega arith)) (omega arith))
-
-same-length : tie.Need-same-length
-same-length c = search needs
 
 returns : tie.Need-returns
 returns c =
@@ -75,9 +63,6 @@ returns c =
           rw (end-less q rs (s .args .w) (s .args .k) (s .args .sums) (s .args .area .now) (n .leading .result) m (n .leading .ensures) (s .args .outcome) (z .before .before .before .if1 .taken), ← e)
           (appended-more b 0 _ _ _ _ _ _ i (z .none .ensures) (omega arith)),
     )
-
-same-length-2 : tie.Need-same-length-2
-same-length-2 c = search needs
 
 returns-2 : tie.Need-returns-2
 returns-2 c =
@@ -96,12 +81,12 @@ pub ended-spec : {M : Type 1} → statement M
 ended-spec =
     tie.close
     (tie.spec
-    leading-requires
-    head-requires
+    (λ c κs. search needs)
+    (λ c κs. search needs)
     lines-requires
-    at-requires
+    (λ c κs. search needs)
     none-requires
-    same-length
+    (λ c. search needs)
     returns
-    same-length-2
+    (λ c. search needs)
     returns-2)

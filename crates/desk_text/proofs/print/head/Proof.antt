@@ -6,9 +6,9 @@ use lib.ListN.{length, length-set}
 use borrow.Author.Needs.{needs}
 use Rattle.numerals.specs.Decimal.{decimal}
 use Rattle.numerals.proofs.DecimalLaws.{decimal-length}
-use Rattle.output.specs.Line.{newline}
+use Rattle.desk_output.specs.Line.{newline}
 use Rattle.desk_text.specs.Desk.{endWord, routesWord}
-use Rattle.output.proofs.AppendLaws.{appended-by, appended-one, appended-more}
+use Rattle.desk_output.proofs.AppendLaws.{appended-by, appended-one, appended-more}
 use Rattle.desk_text.proofs.TextLaws.{head-parts}
 use Rattle.desk_text.proofs.print.head.Statement.{statement}
 use Rattle.desk_text.proofs.print.head.Tie as tie
@@ -26,40 +26,16 @@ told n = n .before .before .before .before .before
 abbrev routes : tie.After-write2 → tie.After-bytes2
 routes n = n .before .before .before .before
 
-slice-aggregate-bytes : tie.Need-slice-aggregate-bytes
-slice-aggregate-bytes c = search needs
-
-bytes-requires : tie.Need-bytes-requires
-bytes-requires c κs = omega arith
-
-write-requires : tie.Need-write-requires
-write-requires c κs = omega (arith, c .before .before .before .bytes .ensures .place)
-
 outcome-most : (w : tie.After-write) → w .write .result ≤ 24
 outcome-most w = omega (arith, w .write .ensures .0, word w .bytes .ensures .place, decimal-length (start (word w) .args .outcome))
 
 routes-most : (n : tie.After-bytes2) → n .bytes2 .result ≤ 32
 routes-most n = omega (arith, n .bytes2 .ensures .place, outcome-most (told n))
 
-slice-aggregate-bytes-2 : tie.Need-slice-aggregate-bytes-2
-slice-aggregate-bytes-2 c = search needs
-
-bytes-requires-2 : tie.Need-bytes-requires-2
-bytes-requires-2 c κs = omega (arith, outcome-most (c .before .before .before .before))
-
-write-requires-2 : tie.Need-write-requires-2
-write-requires-2 c κs = omega (arith, routes-most (c .before .before .before))
-
 slice-write-out : tie.Need-slice-write-out
 slice-write-out c =
     let n = c .before .before in
     omega (arith, routes-most (routes n), n .write2 .ensures .0, decimal-length (start (word (told (routes n))) .args .count))
-
-add-result : tie.Need-add-result
-add-result c = omega (arith, slice-write-out c)
-
-same-length : tie.Need-same-length
-same-length c = simp length-set (omega arith)
 
 returns : tie.Need-returns
 returns c =
@@ -79,13 +55,13 @@ pub head-spec : {M : Type 1} → statement M
 head-spec =
     tie.close
     (tie.spec
-    slice-aggregate-bytes
-    bytes-requires
-    write-requires
-    slice-aggregate-bytes-2
-    bytes-requires-2
-    write-requires-2
+    (λ c. search needs)
+    (λ c κs. omega arith)
+    (λ c κs. omega (arith, c .before .before .before .bytes .ensures .place))
+    (λ c. search needs)
+    (λ c κs. omega (arith, outcome-most (c .before .before .before .before)))
+    (λ c κs. omega (arith, routes-most (c .before .before .before)))
     slice-write-out
-    add-result
-    same-length
+    (λ c. omega (arith, slice-write-out c))
+    (λ c. simp length-set (omega arith))
     returns)

@@ -14,23 +14,8 @@ Inv-loop k arcs j₀ j = (j ≤ k) × ((i : ℕ) → i < j → 1 ≤ getD arcs i
 abbrev μ-loop : tie.MeasureT-loop
 μ-loop k arcs j₀ j = k - j
 
-loop-holds : tie.Need-loop-holds Inv-loop μ-loop
-loop-holds c = (omega arith, λ i h. omega arith)
-
-mul-if1 : tie.Need-mul-if1 Inv-loop μ-loop
-mul-if1 c = search needs
-
-array-read-if1 : tie.Need-array-read-if1 Inv-loop μ-loop
-array-read-if1 c = search needs
-
 returns : tie.Need-returns Inv-loop μ-loop
 returns c = record { few = omega arith; each = c .before .before .loop .inv .1; stop = λ h. c .if1 .taken }
-
-add-j : tie.Need-add-j Inv-loop μ-loop
-add-j c = search needs
-
-loop-less : tie.Need-loop-less Inv-loop μ-loop
-loop-less c = search needs
 
 loop-again : tie.Need-loop-again Inv-loop μ-loop
 loop-again c = (omega arith, each-more (c .before .before .before .before .args .sums .arcs) (c .before .before .loop .j) (c .before .before .loop .inv .1) (c .if1 .left))
@@ -44,11 +29,11 @@ leading-spec =
     (tie.spec
     Inv-loop
     μ-loop
-    loop-holds
-    mul-if1
-    array-read-if1
+    (λ c. (omega arith, λ i h. omega arith))
+    (λ c. search needs)
+    (λ c. search needs)
     returns
-    add-j
-    loop-less
+    (λ c. search needs)
+    (λ c. search needs)
     loop-again
     returns-2)

@@ -5,10 +5,10 @@ use Prim.Native.Nat.{_+_, _*_, _≤_, _-_}
 use native.Mathlib.Omega.{arith}
 use lib.ListN.{length}
 use borrow.Author.Needs.{needs}
-use Rattle.output.specs.Line.{Appended}
+use Rattle.desk_output.specs.Line.{Appended}
 use Rattle.summary.specs.declared.Summary.{Summary}
 use Rattle.desk_text.specs.Lines.{linesFrom}
-use Rattle.output.proofs.AppendLaws.{appended-none}
+use Rattle.desk_output.proofs.AppendLaws.{appended-none}
 use Rattle.desk_text.proofs.TextLaws.{lines-none, lines-length, lines-turn, slot-in, part-length}
 use Rattle.desk_text.proofs.print.lines.Statement.{statement}
 use Rattle.desk_text.proofs.print.lines.Tie as tie
@@ -38,30 +38,6 @@ loop-holds c =
     let s = c .before .before in
     (omega arith, refl, rw (lines-none (s .args .sums) (s .args .w) (s .args .area .now) 0) (appended-none (s .args .out .now) (s .args .at)))
 
-at-requires : tie.Need-at-requires Inv-loop μ-loop
-at-requires c κs = search needs
-
-mul-a : tie.Need-mul-a Inv-loop μ-loop
-mul-a c = omega (arith, part-in c .1)
-
-add-e : tie.Need-add-e Inv-loop μ-loop
-add-e c = omega (arith, part-in c .1)
-
-add-route : tie.Need-add-route Inv-loop μ-loop
-add-route c = search needs
-
-mul-route : tie.Need-mul-route Inv-loop μ-loop
-mul-route c = omega (arith, part-in (c .before) .1)
-
-sub-route : tie.Need-sub-route Inv-loop μ-loop
-sub-route c = search needs
-
-part-route-start : tie.Need-part-route-start Inv-loop μ-loop
-part-route-start c = search needs
-
-part-route-end : tie.Need-part-route-end Inv-loop μ-loop
-part-route-end c = omega (arith, part-in (c .before) .1)
-
 route-requires : tie.Need-route-requires Inv-loop μ-loop
 route-requires c κs =
     let a = c .before .before in
@@ -75,12 +51,6 @@ route-requires c κs =
       part-length (s .args .area .now) (j * s .args .w) (a .at .result .arcs),
     )
 
-add-j : tie.Need-add-j Inv-loop μ-loop
-add-j c = search needs
-
-loop-less : tie.Need-loop-less Inv-loop μ-loop
-loop-less c = search needs
-
 loop-again : tie.Need-loop-again Inv-loop μ-loop
 loop-again c =
     let r = c .before .before in
@@ -91,9 +61,6 @@ loop-again c =
       lines-turn (s .args .sums) (s .args .w) (s .args .area .now) (s .args .out .now) (s .args .at) _ _ (a .before .before .loop .j) (a .at .result) _ _ (a .before .before .loop .inv .2) (a .at .ensures) (r .route .ensures)
           (omega arith),
     )
-
-same-length : tie.Need-same-length Inv-loop μ-loop
-same-length c = search needs
 
 returns : tie.Need-returns Inv-loop μ-loop
 returns c =
@@ -107,17 +74,17 @@ lines-spec =
     Inv-loop
     μ-loop
     loop-holds
-    at-requires
-    mul-a
-    add-e
-    add-route
-    mul-route
-    sub-route
-    part-route-start
-    part-route-end
+    (λ c κs. search needs)
+    (λ c. omega (arith, part-in c .1))
+    (λ c. omega (arith, part-in c .1))
+    (λ c. search needs)
+    (λ c. omega (arith, part-in (c .before) .1))
+    (λ c. search needs)
+    (λ c. search needs)
+    (λ c. omega (arith, part-in (c .before) .1))
     route-requires
-    add-j
-    loop-less
+    (λ c. search needs)
+    (λ c. search needs)
     loop-again
-    same-length
+    (λ c. search needs)
     returns)

@@ -6,9 +6,9 @@ use lib.ListN.{length, length-set}
 use borrow.Author.Needs.{needs}
 use Rattle.numerals.specs.Decimal.{decimal}
 use Rattle.numerals.proofs.DecimalLaws.{decimal-length}
-use Rattle.output.specs.Line.{newline}
+use Rattle.desk_output.specs.Line.{newline}
 use Rattle.desk_text.specs.Desk.{noneWord}
-use Rattle.output.proofs.AppendLaws.{appended-by, appended-one, appended-more}
+use Rattle.desk_output.proofs.AppendLaws.{appended-by, appended-one, appended-more}
 use Rattle.desk_text.proofs.TextLaws.{none-parts}
 use Rattle.desk_text.proofs.print.none.Statement.{statement}
 use Rattle.desk_text.proofs.print.none.Tie as tie
@@ -20,25 +20,10 @@ start b = b .before .before .before .before
 abbrev word : tie.After-write → tie.After-bytes
 word w = w .before .before .before .before
 
-slice-aggregate-bytes : tie.Need-slice-aggregate-bytes
-slice-aggregate-bytes c = search needs
-
-bytes-requires : tie.Need-bytes-requires
-bytes-requires c κs = omega arith
-
-write-requires : tie.Need-write-requires
-write-requires c κs = omega (arith, c .before .before .before .bytes .ensures .place)
-
 slice-write-out : tie.Need-slice-write-out
 slice-write-out c =
     let w = c .before .before in
     omega (arith, w .write .ensures .0, word w .bytes .ensures .place, decimal-length (start (word w) .args .labels))
-
-add-result : tie.Need-add-result
-add-result c = omega (arith, slice-write-out c)
-
-same-length : tie.Need-same-length
-same-length c = simp length-set (omega arith)
 
 returns : tie.Need-returns
 returns c =
@@ -55,10 +40,10 @@ pub none-spec : {M : Type 1} → statement M
 none-spec =
     tie.close
     (tie.spec
-    slice-aggregate-bytes
-    bytes-requires
-    write-requires
+    (λ c. search needs)
+    (λ c κs. omega arith)
+    (λ c κs. omega (arith, c .before .before .before .bytes .ensures .place))
     slice-write-out
-    add-result
-    same-length
+    (λ c. omega (arith, slice-write-out c))
+    (λ c. simp length-set (omega arith))
     returns)

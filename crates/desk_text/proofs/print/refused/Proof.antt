@@ -6,9 +6,9 @@ use lib.ListN.{length, length-set}
 use borrow.Author.Needs.{needs}
 use Rattle.numerals.specs.Decimal.{decimal}
 use Rattle.numerals.proofs.DecimalLaws.{decimal-length}
-use Rattle.output.specs.Line.{newline}
+use Rattle.desk_output.specs.Line.{newline}
 use Rattle.desk_text.specs.Desk.{refusedWord}
-use Rattle.output.proofs.AppendLaws.{appended-by, appended-one, appended-more}
+use Rattle.desk_output.proofs.AppendLaws.{appended-by, appended-one, appended-more}
 use Rattle.desk_text.proofs.TextLaws.{refused-parts, beside-length}
 use Rattle.desk_text.proofs.print.refused.Statement.{statement}
 use Rattle.desk_text.proofs.print.refused.Tie as tie
@@ -18,37 +18,19 @@ abbrev start : tie.After-bytes → tie.Start
 start b = b .before .before .before .before
 
 abbrev word : tie.After-write → tie.After-bytes
-word w = w .before .before .before .before
+word w = w .before .before .before .before .before
 
 abbrev told : tie.After-beside → tie.After-write
 told n = n .before .before .before .before
 
-slice-aggregate-bytes : tie.Need-slice-aggregate-bytes
-slice-aggregate-bytes c = search needs
-
-bytes-requires : tie.Need-bytes-requires
-bytes-requires c κs = omega arith
-
-write-requires : tie.Need-write-requires
-write-requires c κs = omega (arith, c .before .before .before .bytes .ensures .place)
-
 outcome-most : (w : tie.After-write) → w .write .result ≤ 28
-outcome-most w = omega (arith, w .write .ensures .0, word w .bytes .ensures .place, decimal-length (start (word w) .args .outcome))
-
-beside-requires : tie.Need-beside-requires
-beside-requires c κs = omega (arith, outcome-most (c .before .before .before))
+outcome-most w = omega (arith, w .write .ensures .0, word w .bytes .ensures .place, decimal-length (start (word w) .args .told .outcome))
 
 slice-write-out : tie.Need-slice-write-out
 slice-write-out c =
     let n = c .before .before in
     let s = start (word (told n)) in
-    omega (arith, outcome-most (told n), n .beside .ensures .place, beside-length (s .args .outcome) (s .args .number))
-
-add-result : tie.Need-add-result
-add-result c = omega (arith, slice-write-out c)
-
-same-length : tie.Need-same-length
-same-length c = simp length-set (omega arith)
+    omega (arith, outcome-most (told n), n .beside .ensures .place, beside-length (s .args .told .outcome) (s .args .told .number))
 
 returns : tie.Need-returns
 returns c =
@@ -58,19 +40,20 @@ returns c =
     let s = start b in
     let l = s .args .out .now in
     let h : 0 ≤ length l = omega arith in
-    let i = appended-more l 0 refusedWord _ _ (decimal (s .args .outcome)) _ _ (b .bytes .ensures) (appended-by _ _ _ _ _ (w .write .ensures)) h in
+    let i = appended-more l 0 refusedWord _ _ (decimal (s .args .told .outcome)) _ _ (b .bytes .ensures) (appended-by _ _ _ _ _ (w .write .ensures)) h in
     let ii = appended-more l 0 _ _ _ _ _ _ i (n .beside .ensures) h in
-    rw (← refused-parts (s .args .outcome) (s .args .number)) (appended-more l 0 _ _ _ _ _ _ ii (appended-one _ _ newline (slice-write-out c)) h)
+    rw (← refused-parts (s .args .told .outcome) (s .args .told .number)) (appended-more l 0 _ _ _ _ _ _ ii (appended-one _ _ newline (slice-write-out c)) h)
 
 pub refused-spec : {M : Type 1} → statement M
 refused-spec =
     tie.close
     (tie.spec
-    slice-aggregate-bytes
-    bytes-requires
-    write-requires
-    beside-requires
+    (λ c. search needs)
+    (λ c κs. omega arith)
+    (λ c. search needs)
+    (λ c κs. omega (arith, c .before .before .before .before .bytes .ensures .place))
+    (λ c κs. omega (arith, outcome-most (c .before .before .before)))
     slice-write-out
-    add-result
-    same-length
+    (λ c. omega (arith, slice-write-out c))
+    (λ c. simp length-set (omega arith))
     returns)

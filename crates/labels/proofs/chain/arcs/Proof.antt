@@ -22,21 +22,6 @@ start c = c .before .before .before .before
 lower : (c : tie.After-extends Inv-loop μ-loop) → c .extends .result < c .before .before .loop .j
 lower c = omega (arith, c .extends .ensures, start c .pre .0 .lower (c .before .before .loop .j) (omega arith) (c .before .loop-test .taken))
 
-loop-holds : tie.Need-loop-holds Inv-loop μ-loop
-loop-holds c = search needs
-
-extends-requires : tie.Need-extends-requires Inv-loop μ-loop
-extends-requires c κs = search needs
-
-cast-j : tie.Need-cast-j Inv-loop μ-loop
-cast-j c = search needs
-
-add-k : tie.Need-add-k Inv-loop μ-loop
-add-k c = omega (arith, chain-short (start c .args .b .now) (start c .args .i))
-
-loop-less : tie.Need-loop-less Inv-loop μ-loop
-loop-less c = lower c
-
 loop-again : tie.Need-loop-again Inv-loop μ-loop
 loop-again c =
     let j = c .before .before .loop .j in
@@ -44,11 +29,11 @@ loop-again c =
       arith,
       lower c,
       chain-one (start c .pre .0) j (omega arith) (c .before .loop-test .taken),
-      ap (λ x. length (chainAt (start c .args .b .now) x)) (c .extends .ensures),
+      ap (λ x. length (chainAt (start c .args .labels .now) x)) (c .extends .ensures),
     )
 
 returns : tie.Need-returns Inv-loop μ-loop
-returns c = omega (arith, ap length (chain-none (c .before .before .before .args .b .now) (c .before .loop .j) (c .loop-test .left)))
+returns c = omega (arith, ap length (chain-none (c .before .before .before .args .labels .now) (c .before .loop .j) (c .loop-test .left)))
 
 pub arcs-spec : {M : Type 1} → statement M
 arcs-spec =
@@ -56,10 +41,10 @@ arcs-spec =
     (tie.spec
     Inv-loop
     μ-loop
-    loop-holds
-    extends-requires
-    cast-j
-    add-k
-    loop-less
+    (λ c. search needs)
+    (λ c κs. search needs)
+    (λ c. search needs)
+    (λ c. omega (arith, chain-short (start c .args .labels .now) (start c .args .label)))
+    (λ c. lower c)
     loop-again
     returns)

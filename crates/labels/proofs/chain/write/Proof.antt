@@ -37,44 +37,20 @@ lower c =
     let a = c .before .before .before in
     omega (arith, c .extends .ensures, start a .pre .0 .lower (a .loop .j) (below a) (c .before .before .loop-test .taken))
 
-fill32-requires : tie.Need-fill32-requires Inv-loop μ-loop
-fill32-requires c κs = search needs
-
-arcs-requires : tie.Need-arcs-requires Inv-loop μ-loop
-arcs-requires c κs = search needs
-
 loop-holds : tie.Need-loop-holds Inv-loop μ-loop
 loop-holds c =
     let f = c .before .before .before in
     (search needs, c .arcs .ensures, omega (arith, f .fill32 .kept .0, f .before .before .before .before .pre .2), refl, cc)
 
-sub-k : tie.Need-sub-k Inv-loop μ-loop
-sub-k c = omega (arith, some c)
-
-last-arc-requires : tie.Need-last-arc-requires Inv-loop μ-loop
-last-arc-requires c κs = omega (arith, start (c .before) .pre .0 .room)
-
-mul-s : tie.Need-mul-s Inv-loop μ-loop
-mul-s c =
+mul-slot : tie.Need-mul-slot Inv-loop μ-loop
+mul-slot c =
     let a = c .before .before in
     omega (arith, a .loop .inv .2, filled a .fill32 .kept .0, start a .good .1 .1 .1 .0 .1)
-
-slice-write-s : tie.Need-slice-write-s Inv-loop μ-loop
-slice-write-s c = omega (arith, some (c .before))
-
-extends-requires : tie.Need-extends-requires Inv-loop μ-loop
-extends-requires c κs = omega (arith, start (c .before .before) .pre .0 .room)
-
-cast-j : tie.Need-cast-j Inv-loop μ-loop
-cast-j c = search needs
-
-loop-less : tie.Need-loop-less Inv-loop μ-loop
-loop-less c = lower c
 
 loop-again : tie.Need-loop-again Inv-loop μ-loop
 loop-again c =
     let a = c .before .before .before in
-    let b = start a .args .b .now in
+    let b = start a .args .labels .now in
     let d = start a .pre .0 in
     let r = c .extends .ensures in
     let t = c .before .before .loop-test .taken in (
@@ -82,20 +58,17 @@ loop-again c =
       omega (arith, chain-one d (a .loop .j) (below a) t, ap (λ x. length (chainAt b x)) r),
       omega arith,
       simp length-set (a .loop .inv .3),
-      back-step (chainAt b (c .extends .result)) (chainAt b (a .loop .j)) (c .before .last-arc .result) (a .loop .s) (a .loop .k)
+      back-step (chainAt b (c .extends .result)) (chainAt b (a .loop .j)) (c .before .last-arc .result) (a .loop .slot) (a .loop .k)
           (cc (chain-more d (a .loop .j) (below a) t, r, c .before .last-arc .ensures)) (a .loop .inv .1) (omega arith)
           ∙ a .loop .inv .4,
     )
-
-same-length : tie.Need-same-length Inv-loop μ-loop
-same-length c = search needs
 
 returns : tie.Need-returns Inv-loop μ-loop
 returns c =
     let a = c .before in
     let s = start a in
-    let n = chain-none (s .args .b .now) (a .loop .j) (c .loop-test .left) in
-    back-done (chainAt (s .args .b .now) (s .args .i)) (a .loop .s) (filled a .fill32 .last .0) (length (s .args .s .now)) noNumber (a .loop .k)
+    let n = chain-none (s .args .labels .now) (a .loop .j) (c .loop-test .left) in
+    back-done (chainAt (s .args .labels .now) (s .args .label)) (a .loop .slot) (filled a .fill32 .last .0) (length (s .args .slot .now)) noNumber (a .loop .k)
     (filled a .fill32 .ensures) (omega (arith, ap length n)) (rw n at (a .loop .inv .4))
 
 pub write-spec : {M : Type 1} → statement M
@@ -104,16 +77,16 @@ write-spec =
     (tie.spec
     Inv-loop
     μ-loop
-    fill32-requires
-    arcs-requires
+    (λ c κs. search needs)
+    (λ c κs. search needs)
     loop-holds
-    sub-k
-    last-arc-requires
-    mul-s
-    slice-write-s
-    extends-requires
-    cast-j
-    loop-less
+    (λ c. omega (arith, some c))
+    (λ c κs. omega (arith, start (c .before) .pre .0 .room))
+    mul-slot
+    (λ c. omega (arith, some (c .before)))
+    (λ c κs. omega (arith, start (c .before .before) .pre .0 .room))
+    (λ c. search needs)
+    (λ c. lower c)
     loop-again
-    same-length
+    (λ c. search needs)
     returns)

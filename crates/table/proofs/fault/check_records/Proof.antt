@@ -8,7 +8,7 @@ use Prim.Native.Nat.{_≤_, _-_}
 use native.Mathlib.Nat.{sub-zero}
 use Rattle.table.specs.Table.{records}
 use Rattle.table.specs.Fault.{prevOf, faultAt, lowest}
-use Rattle.table.proofs.FaultLaws.{prev-step, fault-limits, lowest-done, lowest-step, lowest-stop}
+use Rattle.table.proofs.FaultLaws.{prev-step, lowest-done, lowest-step, lowest-stop}
 use Rattle.table.proofs.fault.check_records.Statement.{statement}
 use Rattle.table.proofs.fault.check_records.Tie as tie
 
@@ -26,75 +26,44 @@ abbrev start : tie.After-fault-of Inv-loop μ-loop → tie.Start Inv-loop μ-loo
 start c = at c .before .before
 
 -- what the turn finds is the fault of record i
-found : (c : tie.After-fault-of Inv-loop μ-loop) → c .fault-of .result ≡ faultAt (start c .args .nodes) (start c .args .t .now) (at c .loop .i)
+found : (c : tie.After-fault-of Inv-loop μ-loop) → c .fault-of .result ≡ faultAt (start c .args .nodes) (start c .args .table .now) (at c .loop .i)
 unfolding faultAt
 found c = cc
 
-loop-holds : tie.Need-loop-holds Inv-loop μ-loop
-unfolding prevOf
-loop-holds c = (search needs, refl, rw sub-zero)
-
-from-of-requires : tie.Need-from-of-requires Inv-loop μ-loop
-from-of-requires c κs = search needs
-
-to-of-requires : tie.Need-to-of-requires Inv-loop μ-loop
-to-of-requires c κs = search needs
-
-length-of-requires : tie.Need-length-of-requires Inv-loop μ-loop
-length-of-requires c κs = search needs
-
-zeros-of-requires : tie.Need-zeros-of-requires Inv-loop μ-loop
-zeros-of-requires c κs = search needs
-
-fault-of-requires : tie.Need-fault-of-requires Inv-loop μ-loop
-fault-of-requires c κs = search needs
-
-cast-named : tie.Need-cast-named Inv-loop μ-loop
-cast-named c = search needs
-
-named-requires : tie.Need-named-requires Inv-loop μ-loop
-named-requires c κs = fault-limits _ _ _ _ _ _ _ (c .before .fault-of .ensures) (c .if1 .taken)
-
 returns : tie.Need-returns Inv-loop μ-loop
 returns c =
-    let k = c .before .before in
-    cc (found k, lowest-stop (start k .args .nodes) (start k .args .t .now) (records (start k .args .t .now)) (at k .loop .i) (omega arith) (λ z. c .before .if1 .taken (found k ∙ z)))
-
-add-i : tie.Need-add-i Inv-loop μ-loop
-add-i c = search needs
-
-loop-less : tie.Need-loop-less Inv-loop μ-loop
-loop-less c = search needs
+    let k = c .before in
+    cc (found k, lowest-stop (start k .args .nodes) (start k .args .table .now) (records (start k .args .table .now)) (at k .loop .i) (omega arith) (λ z. c .if1 .taken (found k ∙ z)))
 
 loop-again : tie.Need-loop-again Inv-loop μ-loop
 loop-again c =
     let k = c .before in (
       search needs,
-      cc (prev-step (start k .args .t .now) (at k .loop .i)),
-      cc (lowest-step (start k .args .nodes) (start k .args .t .now) (records (start k .args .t .now)) (at k .loop .i) (omega arith) (cc (found k))),
+      cc (prev-step (start k .args .table .now) (at k .loop .i)),
+      cc (lowest-step (start k .args .nodes) (start k .args .table .now) (records (start k .args .table .now)) (at k .loop .i) (omega arith) (cc (found k))),
     )
 
 returns-2 : tie.Need-returns-2 Inv-loop μ-loop
 returns-2 c =
     let s = c .before .before .before in
-    cc (lowest-done (s .args .nodes) (s .args .t .now) (records (s .args .t .now)) (c .before .loop .i) (omega arith))
+    cc (lowest-done (s .args .nodes) (s .args .table .now) (records (s .args .table .now)) (c .before .loop .i) (omega arith))
 
 pub check-records-spec : {M : Type 1} → statement M
+unfolding prevOf
 check-records-spec =
     tie.close
     (tie.spec
     Inv-loop
     μ-loop
-    loop-holds
-    from-of-requires
-    to-of-requires
-    length-of-requires
-    zeros-of-requires
-    fault-of-requires
-    cast-named
-    named-requires
+    (λ c. (search needs, refl, rw sub-zero))
+    (λ c κs. search needs)
+    (λ c κs. search needs)
+    (λ c κs. search needs)
+    (λ c κs. search needs)
+    (λ c κs. search needs)
+    (λ c. search needs)
     returns
-    add-i
-    loop-less
+    (λ c. search needs)
+    (λ c. search needs)
     loop-again
     returns-2)

@@ -5,8 +5,5 @@ use Rattle.table.proofs.RunLaws.{next-here}
 use Rattle.table.proofs.run.next_arc.Statement.{statement}
 use Rattle.table.proofs.run.next_arc.Tie as tie
 
-returns : tie.Need-returns
-returns c = sym (next-here everyArc (c .args .a) (c .args .e) refl)
-
 pub next-arc-spec : {M : Type 1} → statement M
-next-arc-spec = tie.close (tie.spec returns)
+next-arc-spec = tie.close (tie.spec (λ c. sym (next-here everyArc (c .args .arc) (c .args .end) refl)))

@@ -8,54 +8,42 @@ use Rattle.table.proofs.RunLaws.{run-le, run-mono}
 use Rattle.table.proofs.run.run_of.Statement.{statement}
 use Rattle.table.proofs.run.run_of.Tie as tie
 
-run-start-requires : tie.Need-run-start-requires
-run-start-requires c κs = search needs
-
-mul-a : tie.Need-mul-a
-mul-a c =
+mul-from : tie.Need-mul-from
+mul-from c =
     let s = c .before .before in
-    omega (arith, run-le (s .args .t .now) (s .args .v))
+    omega (arith, run-le (s .args .table .now) (s .args .v))
 
-add-run-start : tie.Need-add-run-start
-add-run-start c = search needs
-
-run-start-requires-2 : tie.Need-run-start-requires-2
-run-start-requires-2 c κs = search needs
-
-mul-e : tie.Need-mul-e
-mul-e c =
+mul-to : tie.Need-mul-to
+mul-to c =
     let s = c .before .before .before in
-    omega (arith, run-le (s .args .t .now) (s .args .v + 1))
+    omega (arith, run-le (s .args .table .now) (s .args .v + 1))
 
 sub-result : tie.Need-sub-result
 sub-result c =
     let s = c .before .before .before in
-    omega (arith, run-mono (s .args .t .now) (s .args .v))
+    omega (arith, run-mono (s .args .table .now) (s .args .v))
 
 part-result-start : tie.Need-part-result-start
 part-result-start c =
     let s = c .before .before .before in
-    omega (arith, run-mono (s .args .t .now) (s .args .v))
+    omega (arith, run-mono (s .args .table .now) (s .args .v))
 
 part-result-end : tie.Need-part-result-end
 part-result-end c =
     let s = c .before .before .before in
-    omega (arith, run-le (s .args .t .now) (s .args .v + 1))
-
-returns : tie.Need-returns
-unfolding runOf
-returns c = cc
+    omega (arith, run-le (s .args .table .now) (s .args .v + 1))
 
 pub run-of-spec : {M : Type 1} → statement M
+unfolding runOf
 run-of-spec =
     tie.close
     (tie.spec
-    run-start-requires
-    mul-a
-    add-run-start
-    run-start-requires-2
-    mul-e
+    (λ c κs. search needs)
+    mul-from
+    (λ c. search needs)
+    (λ c κs. search needs)
+    mul-to
     sub-result
     part-result-start
     part-result-end
-    returns)
+    (λ c. cc))

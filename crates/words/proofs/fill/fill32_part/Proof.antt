@@ -5,24 +5,6 @@ use Rattle.words.proofs.FillLaws.{fill-part}
 use Rattle.words.proofs.fill.fill32_part.Statement.{statement}
 use Rattle.words.proofs.fill.fill32_part.Tie as tie
 
-mul-fill32 : tie.Need-mul-fill32
-mul-fill32 c = search needs
-
-sub-fill32 : tie.Need-sub-fill32
-sub-fill32 c = search needs
-
-part-fill32-start : tie.Need-part-fill32-start
-part-fill32-start c = search needs
-
-part-fill32-end : tie.Need-part-fill32-end
-part-fill32-end c = search needs
-
-fill32-requires : tie.Need-fill32-requires
-fill32-requires c κs = search needs
-
-same-length : tie.Need-same-length
-same-length c = search needs
-
 returns : tie.Need-returns
 returns c =
     let s = c .before .before .before .before .before in
@@ -32,10 +14,10 @@ pub fill32-part-spec : {M : Type 1} → statement M
 fill32-part-spec =
     tie.close
     (tie.spec
-    mul-fill32
-    sub-fill32
-    part-fill32-start
-    part-fill32-end
-    fill32-requires
-    same-length
+    (λ c. search needs)
+    (λ c. search needs)
+    (λ c. search needs)
+    (λ c. search needs)
+    (λ c κs. search needs)
+    (λ c. search needs)
     returns)

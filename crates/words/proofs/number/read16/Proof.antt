@@ -7,23 +7,8 @@ use Rattle.words.specs.Number.{num}
 use Rattle.words.proofs.number.read16.Statement.{statement}
 use Rattle.words.proofs.number.read16.Tie as tie
 
-shared-slice-read-join2 : tie.Need-shared-slice-read-join2
-shared-slice-read-join2 c = search needs
-
-add-join2 : tie.Need-add-join2
-add-join2 c = search needs
-
-shared-slice-read-join2-2 : tie.Need-shared-slice-read-join2-2
-shared-slice-read-join2-2 c = search needs
-
-join2-requires : tie.Need-join2-requires
-join2-requires c κs = search needs
-
-returns : tie.Need-returns
-unfolding num
-returns c = simp add-zero (omega arith)
-
 pub read16-spec : {M : Type 1} → statement M
+unfolding num
 read16-spec =
     tie.close
-    (tie.spec shared-slice-read-join2 add-join2 shared-slice-read-join2-2 join2-requires returns)
+    (tie.spec (λ c. search needs) (λ c. search needs) (λ c. search needs) (λ c κs. search needs) (λ c. simp add-zero (omega arith)))

@@ -1,0 +1,67 @@
+-- The outcomes of document 01, each by its number.
+use Prim.Native.Nat.{ℕ}
+use Rattle.outcome.specs.declared.Told.{Told}
+
+-- "k routes found"
+abbrev pub found : ℕ
+found = 0
+
+-- "fewer than k, and no further one exists"
+abbrev pub fewer : ℕ
+fewer = 1
+
+-- "a record names a node not below the node count"
+abbrev pub node : ℕ
+node = 2
+
+-- "a record starts and ends at one node"
+abbrev pub loop : ℕ
+loop = 3
+
+-- "a length is outside its limits"
+abbrev pub lengthOut : ℕ
+lengthOut = 4
+
+-- "bytes 12 to 15 are not all zero"
+abbrev pub zeros : ℕ
+zeros = 5
+
+-- "a record's start node is below the one before it"
+abbrev pub order : ℕ
+order = 6
+
+-- "s or t is not below the node count, or s = t"
+abbrev pub ends : ℕ
+ends = 7
+
+-- "k is outside its limits"
+abbrev pub routes : ℕ
+routes = 8
+
+-- "the threshold is outside its limits"
+abbrev pub threshold : ℕ
+threshold = 9
+
+-- "the route area has fewer than k × (nodes − 1) words, there are fewer than k summaries, or the label buffer holds over 65,535 whole labels"
+abbrev pub buffers : ℕ
+buffers = 10
+
+-- "a round's label count exceeds the room"
+abbrev pub room : ℕ
+room = 11
+
+-- "the program's text is malformed (program only)"
+abbrev pub text : ℕ
+text = 12
+
+-- "node count outside its limits, table bytes not a multiple of 16, or too many records"
+abbrev pub size : ℕ
+size = 13
+
+-- "Where no number is named, 0 is returned beside the outcome."
+abbrev pub plain : ℕ → Told
+plain n = record { outcome = n; number = 0 }
+
+-- The number beside an outcome: a record's or a round's.
+abbrev pub beside : ℕ → ℕ → Told
+beside n i = record { outcome = n; number = i }

@@ -1,0 +1,48 @@
+// What every call answers: document 01's number of the outcome, and the number beside it.
+// specs/Outcome.antt says what each number means.
+ghost use mathlib.Core.Path.{_≡_};
+ghost use Rattle.outcome.specs.Outcome.{plain};
+
+#[repr(C)]
+pub struct Told {
+    pub outcome: u32,
+    pub number: u32,
+}
+
+pub const FOUND: u32 = 0;
+
+pub const FEWER: u32 = 1;
+
+pub const NODE: u32 = 2;
+
+pub const LOOP: u32 = 3;
+
+pub const LENGTH: u32 = 4;
+
+pub const ZEROS: u32 = 5;
+
+pub const ORDER: u32 = 6;
+
+pub const ENDS: u32 = 7;
+
+pub const ROUTES: u32 = 8;
+
+pub const THRESHOLD: u32 = 9;
+
+pub const BUFFERS: u32 = 10;
+
+pub const ROOM: u32 = 11;
+
+pub const TEXT: u32 = 12;
+
+pub const SIZE: u32 = 13;
+
+// An outcome beside which no number is named.
+pub fn plain(outcome: u32) -> Told
+    ensures { λ r. ⌜ r ≡ plain outcome ⌝ }
+{
+    Told {
+        outcome: outcome,
+        number: 0,
+    }
+}

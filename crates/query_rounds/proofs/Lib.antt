@@ -1,0 +1,5 @@
+pub mod AreaLaws
+pub mod SumsLaws
+pub mod ProgressLaws
+pub mod FinishLaws
+pub mod RoundsLaws

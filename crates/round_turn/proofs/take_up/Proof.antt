@@ -1,0 +1,65 @@
+-- What is put is the candidate's row: its length, and its last arc's end, which is its own. An arc's number fits 32 bits, and a label's 16.
+use mathlib.Core.Path.{_≡_, sym, ap, ap₂, _∙_}
+use Prim.Native.Nat.{ℕ, _+_}
+use native.Mathlib.Omega.{arith}
+use borrow.Author.Needs.{needs}
+use borrow.Author.Tests.{eq-eqb, ne-eqb}
+use mathlib.Core.Bool.{cond}
+use lib.Dec.{eqb}
+use Rattle.net.specs.Route.{endOf}
+use Rattle.table.specs.Table.{arcsOf}
+use Rattle.labels.specs.Chain.{chainAt}
+use Rattle.labels.specs.Field.{putRow}
+use Rattle.search_ask.specs.Ask.{chainOf}
+use Rattle.search_ask.proofs.AskLaws.{few-records}
+use Rattle.search_trial.proofs.CoverLaws.{end-is}
+use Rattle.round_turn.specs.declared.State.{State}
+use Rattle.round_turn.specs.Stage.{rowFor}
+use Rattle.round_turn.proofs.take_up.Statement.{statement}
+use Rattle.round_turn.proofs.take_up.Tie as tie
+
+abbrev start : tie.After-to-of → tie.Start
+start c = c .before .before .before
+
+-- the candidate's end
+abbrev end : tie.Start → ℕ
+end s = endOf (arcsOf (s .args .table .now)) (s .args .ask .s) (chainOf (s .args .labels .now) (s .args .c))
+
+ends : (c : tie.After-to-of) → c .to-of .result ≡ end (start c)
+ends c = let s = start c in c .to-of .ensures ∙ end-is (s .args .table .now) (s .args .ask .s) (chainAt (s .args .labels .now) (s .args .c .label)) (s .args .c .arc) (s .pre .1 .arc-below)
+
+abbrev after : tie.After-slice-known2 → tie.After-to-of
+after c = c .before .before .before .before .before .before
+
+bytes : (c : tie.After-slice-known2) → c .before .before .put .last .0
+    ≡ putRow (start (after c) .args .labels .now) (start (after c) .args .n) (rowFor (arcsOf (start (after c) .args .table .now)) (start (after c) .args .ask .s) (start (after c) .args .labels .now) (start (after c) .args .c))
+bytes c =
+    let s = start (after c) in
+    let k = c .before .before in
+    k .put .ensures
+    ∙ ap₂ (λ l e. putRow (s .args .labels .now) (s .args .n) (record { last-arc = s .args .c .arc; extends = s .args .c .label; len = l; end = e })) (k .before .before .length-of .ensures) (ends (after c))
+
+returns : tie.Need-returns
+returns c =
+    let k = after (c .before) in
+    record { bytes = bytes (c .before); state = rw (eq-eqb (end (start k)) (start k .args .ask .goal) (sym (ends k) ∙ c .if1 .taken)) }
+
+returns-2 : tie.Need-returns-2
+returns-2 c =
+    let k = after (c .before) in
+    record { bytes = bytes (c .before); state = rw (ne-eqb (end (start k)) (start k .args .ask .goal) (λ e. c .if1 .left (ends k ∙ e))) }
+
+pub take-up-spec : {M : Type 1} → statement M
+take-up-spec =
+    tie.close
+    (tie.spec
+    (λ c κs. search needs)
+    (λ c κs. search needs)
+    (λ c. let s = start (c .before .before .before) in omega (arith, few-records (s .pre .0 .accepted), s .pre .1 .arc-below))
+    (λ c. search needs)
+    (λ c κs. search needs)
+    (λ c. search needs)
+    (λ c. search needs)
+    returns
+    (λ c. search needs)
+    returns-2)

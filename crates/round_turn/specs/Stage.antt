@@ -1,0 +1,92 @@
+-- The stages of a search, by the labels in the bytes and the candidate last looked at.
+use mathlib.Core.Path.{_≡_}
+use mathlib.Core.Bool.{cond}
+use mathlib.Core.List.{List, List·Memᴰ}
+use mathlib.Core.Logic.{_≢_}
+use Prim.Native.Nat.{ℕ, zero, suc, pred, _+_, _-_, _<_, _≤_}
+use lib.Dec.{eqb}
+use lib.ListN.{length, take}
+use Rattle.net.specs.Net.{Arc}
+use Rattle.net.specs.Route.{endOf, lengthOf}
+use Rattle.net.specs.Round.{Query, counted, Ending, answered, unanswered, refused, ending}
+use Rattle.net.specs.Labels.{held}
+use Rattle.net.specs.Limits.{mostLabels}
+use Rattle.net.specs.Search.{upTo, left}
+use Rattle.table.specs.Table.{arcsOf}
+use Rattle.labels.specs.Field.{Row, putRow}
+use Rattle.labels.specs.Chain.{chainAt, chainsIn, labelsIn}
+use Rattle.labels.specs.Standing.{Standing}
+use Rattle.labels.specs.Rows.{labelled}
+use Rattle.search_ask.specs.declared.Ask.{Ask}
+use Rattle.search_ask.specs.declared.Candidate.{Candidate}
+use Rattle.search_ask.specs.Ask.{Accepted, Points, roomIn, width, chainOf, lastIn}
+use Rattle.search_ask.specs.Earlier.{Earlier}
+use Rattle.round_turn.specs.declared.State.{State}
+
+-- What a search asks: an accepted ask, the earlier answers in their slots with their lengths, and no more room than labels may have.
+pub record Ready (ask : Ask) (table area lens labels : List ℕ) : Type 0 where
+  pub accepted : Accepted ask table
+  pub earlier : Earlier (arcsOf table) (width ask) (length lens) area lens
+  pub room : roomIn labels ≤ mostLabels
+
+-- The order of rule 3.
+abbrev pub guide : Query → List ℕ → ℕ
+guide q = lengthOf (q .net .arcs)
+
+-- The search goes on: the labels' chains are the live partial routes not after the one last looked at, and none ends at t.
+pub record Going (q : Query) (earlier : List (List ℕ)) (labels : List ℕ) (x : State) : Type 0 where
+  pub standing : Standing (q .net .arcs) (q .s) labels (x .n)
+  pub begun : x .n ≢ 0
+  pub fits : x .n ≤ q .room
+  pub points : Points (q .net) (q .s) labels (x .n) (x .last)
+  pub taken : chainsIn labels (x .n) ≡ upTo (guide q) q earlier (lastIn labels (x .last))
+  pub read : labelsIn labels (x .n) ≡ Rattle.net.specs.Labels.labels (chainsIn labels (x .n))
+  pub short : (p : List ℕ) → List·Memᴰ p (chainsIn labels (x .n)) → endOf (q .net .arcs) (q .s) p ≢ q .t
+
+-- The search has ended so: its labels hold what the round counts, as many as there is room for.
+pub record Over (q : Query) (earlier : List (List ℕ)) (labels : List ℕ) (n : ℕ) (e : Ending) : Type 0 where
+  pub standing : Standing (q .net .arcs) (q .s) labels n
+  pub ends : ending q earlier ≡ e
+  pub chains : chainsIn labels n ≡ take (q .room) (counted q earlier)
+  pub holds : labelsIn labels n ≡ held q earlier
+
+-- Stage 0: it goes on. 1: an answer, the last label's chain. 2: none. 3: refused for room.
+abbrev pub StageAt : ℕ → Query → List (List ℕ) → List ℕ → State → Type 0
+StageAt zero q earlier labels x = Going q earlier labels x
+StageAt (suc zero) q earlier labels x = (x .n ≢ 0) × Over q earlier labels (x .n) (answered (chainAt labels (pred (x .n))) (x .n))
+StageAt (suc (suc zero)) q earlier labels x = Over q earlier labels (x .n) (unanswered (x .n))
+StageAt (suc (suc (suc k))) q earlier labels x = Over q earlier labels (x .n) refused
+
+abbrev pub Stage : Query → List (List ℕ) → List ℕ → State → Type 0
+Stage q earlier labels x = StageAt (x .stage) q earlier labels x
+
+-- Falls with each turn.
+abbrev pub leftIn : Query → List ℕ → State → ℕ
+leftIn q labels x = left (guide q) (q .net) (q .s) (q .room) (chainsIn labels (x .n)) (lastIn labels (x .last)) + (1 - x .stage)
+
+-- The bytes stay those of the chains taken up, over any bytes l of which they were so.
+abbrev pub Keeps : Query → List ℕ → ℕ → List ℕ → ℕ → Type 0
+Keeps q labels n labels′ n′ =
+    (l : List ℕ) → labels ≡ labelled (q .net .arcs) (q .s) l (chainsIn labels n) → labels′ ≡ labelled (q .net .arcs) (q .s) l (chainsIn labels′ n′)
+
+-- The row of a candidate's label.
+abbrev pub rowFor : List Arc → ℕ → List ℕ → Candidate → Row
+rowFor arcs s labels c = record { last-arc = c .arc; extends = c .label; len = lengthOf arcs (chainOf labels c); end = endOf arcs s (chainOf labels c) }
+
+-- What taking a candidate up as label n does.
+pub record Taken (ask : Ask) (table labels : List ℕ) (n : ℕ) (c : Candidate) (labels′ : List ℕ) (y : State) : Type 0 where
+  pub bytes : labels′ ≡ putRow labels n (rowFor (arcsOf table) (ask .s) labels c)
+  pub state : y ≡ record { n = n + 1; last = c; stage = cond (eqb (endOf (arcsOf table) (ask .s) (chainOf labels c)) (ask .goal)) 1 0 }
+
+-- What a turn does.
+pub record Turned (q : Query) (earlier : List (List ℕ)) (labels : List ℕ) (x : State) (labels′ : List ℕ) (y : State) : Type 0 where
+  pub long : length labels′ ≡ length labels
+  pub stage : Stage q earlier labels′ y
+  pub keeps : Keeps q labels (x .n) labels′ (y .n)
+  pub less : leftIn q labels′ y < leftIn q labels x
+
+-- What all turns so far have done, from bytes without a label.
+pub record Searched (q : Query) (earlier : List (List ℕ)) (labels labels′ : List ℕ) (y : State) : Type 0 where
+  pub long : length labels′ ≡ length labels
+  pub stage : Stage q earlier labels′ y
+  pub keeps : Keeps q labels 0 labels′ (y .n)

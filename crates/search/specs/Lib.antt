@@ -1,3 +1,0 @@
-pub mod Ask
-pub mod Earlier
-pub mod Scan

@@ -1,0 +1,47 @@
+-- The words are looked at in order. The loop's invariant: whether the arc stands among the words from i on tells whether it stands on the slot; past the last
+-- word it stands among none.
+use mathlib.Core.Path.{_≡_, refl}
+use Prim.Native.Nat.{_≤_, _-_}
+use native.Mathlib.Omega.{arith}
+use lib.ListN.{length, drop}
+use borrow.Author.Needs.{needs}
+use Rattle.lists.specs.Tests.{has}
+use Rattle.search_trial.proofs.OverlapLaws.{has-done, has-step, has-stop}
+use Rattle.search_trial.proofs.overlap.stands_on.Statement.{statement}
+use Rattle.search_trial.proofs.overlap.stands_on.Tie as tie
+
+abbrev Inv-loop : tie.InvT-loop
+Inv-loop slot a i₀ i = (i ≤ length slot) × (has a (drop i slot) ≡ has a slot)
+
+abbrev μ-loop : tie.MeasureT-loop
+μ-loop slot a i₀ i = length slot - i
+
+returns : tie.Need-returns Inv-loop μ-loop
+returns c =
+    let a = c .before .before .before in
+    cc (has-stop (a .before .args .arc) (a .before .args .slot .now) (a .loop .i) (omega arith) (c .if1 .taken))
+
+loop-again : tie.Need-loop-again Inv-loop μ-loop
+loop-again c =
+    let a = c .before .before .before in
+    (search needs, cc (has-step (a .before .args .arc) (a .before .args .slot .now) (a .loop .i) (omega arith) (c .if1 .left)))
+
+returns-2 : tie.Need-returns-2 Inv-loop μ-loop
+returns-2 c =
+    let a = c .before in
+    cc (has-done (a .before .args .arc) (a .before .args .slot .now) (a .loop .i) (omega arith))
+
+pub stands-on-spec : {M : Type 1} → statement M
+stands-on-spec =
+    tie.close
+    (tie.spec
+    Inv-loop
+    μ-loop
+    (λ c. (search needs, refl))
+    (λ c. search needs)
+    (λ c. search needs)
+    returns
+    (λ c. search needs)
+    (λ c. search needs)
+    loop-again
+    returns-2)

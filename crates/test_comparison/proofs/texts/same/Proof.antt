@@ -1,0 +1,29 @@
+-- `comparison::texts::same` is safe and ends: its loop counts to its end.
+use borrow.Author.Needs.{needs}
+use Prim.Native.Nat.{_≤_, _-_}
+use mathlib.Core.Path.{_≡_}
+use lib.ListN.{length}
+use Rattle.test_comparison.proofs.texts.same.Statement.{statement}
+use Rattle.test_comparison.proofs.texts.same.Tie as tie
+
+abbrev Inv-loop : tie.InvT-loop
+Inv-loop a b i₀ i-end i = (i ≤ i-end) × (i-end ≡ length a)
+
+abbrev μ-loop : tie.MeasureT-loop
+μ-loop a b i₀ i-end i = i-end - i
+
+pub same-spec : {M : Type 1} → statement M
+same-spec =
+    tie.close
+    (tie.spec
+    Inv-loop
+    μ-loop
+    (λ c. search needs)
+    (λ c. search needs)
+    (λ c. search needs)
+    (λ c κs. search needs)
+    (λ c. search needs)
+    (λ c. search needs)
+    (λ c. search needs)
+    (λ c. search needs)
+    (λ c. search needs))

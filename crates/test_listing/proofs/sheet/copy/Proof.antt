@@ -1,0 +1,18 @@
+-- `copy` ends: its loop counts to `count`.
+use borrow.Author.Needs.{needs}
+use Prim.Native.Nat.{_-_}
+use Rattle.test_listing.proofs.sheet.copy.Statement.{statement}
+use Rattle.test_listing.proofs.sheet.copy.Tie as tie
+
+abbrev Inv-loop : tie.InvT-loop
+Inv-loop sheet₀ from at count i₀ sheet i = Unit {0}
+
+abbrev μ-loop : tie.MeasureT-loop
+μ-loop sheet₀ from at count i₀ sheet i = count - i
+
+pub copy-spec : {M : Type 1} → statement M
+copy-spec =
+    tie.close
+    (tie.spec Inv-loop μ-loop (λ c. search needs) (λ c κs. search needs) (λ c κs. search needs)
+    (λ c κs. search needs) (λ c. search needs) (λ c. search needs) (λ c. search needs)
+    (λ c. search needs))
