@@ -1,6 +1,6 @@
 # What the commands share. $top is the project's folder.
 # Proved programs and the archive are for x86-64. Elsewhere C is compiled by Debian's cross compiler, and programs run under the kit's loader and emulator.
-top=$(cd "$(dirname "$0")/.." && pwd -P) || exit 2
+top=$(cd "$(dirname "$(readlink -f "$0")")/.." && pwd -P) || exit 2
 guide=$(rt doc) || exit 2
 tools=${guide%/docs/*}/on/$(uname -m)/toolchain
 archive=$top/target/staticlib/libojeonbut.a

@@ -16,6 +16,9 @@
 extern "C" {
 #endif
 
+/* The version that this header declares; ojeonbut_version() gives the archive's. It goes up with every change that a caller can see: docs/CHANGES.md. */
+#define OJEONBUT_VERSION 1
+
 /* A road table: arc records of 16 bytes, little-endian: start node, end node, length, four zero bytes; 4 bytes each. Records stand in order of start node.
  * An arc's number is its record's, from 0; a node's is below the node count. */
 #define OJEONBUT_RECORD 16      /* bytes of an arc record */
@@ -30,7 +33,7 @@ extern "C" {
 /* The outcomes. `number` is what stands beside each in ojeonbut_reply; where none is named it is 0. 12 is the desk program's, for malformed text: no call gives it. */
 enum ojeonbut_outcome {
     OJEONBUT_FOUND = 0,     /* all k routes found; from ojeonbut_check: the table has no fault */
-    OJEONBUT_FEWER = 1,     /* fewer than k routes exist; those there are were found */
+    OJEONBUT_FEWER = 1,     /* fewer than k routes found, and no further one exists */
     OJEONBUT_NODE = 2,      /* a record names a node not below the node count; number: the record */
     OJEONBUT_LOOP = 3,      /* a record starts and ends at one node; number: the record */
     OJEONBUT_BAD_LENGTH = 4, /* a length is outside 1 to 1,000,000; number: the record */
@@ -61,6 +64,8 @@ typedef struct ojeonbut_summary {
     uint64_t arcs;
     uint64_t labels;
 } ojeonbut_summary;
+
+uint32_t ojeonbut_version(void);
 
 /* Outcome 13, or the lowest of 2 to 6 in the lowest faulty record, or 0. Writes nothing. */
 ojeonbut_reply ojeonbut_check(const uint8_t *table, size_t table_bytes, uint32_t nodes);

@@ -1,4 +1,4 @@
-/* The archive's three calls on drawn small tables and queries, right and spoilt, in buffers that lie in junk. Each outcome, and every byte that is to be zero, filled or
+/* The archive's version, and its three other calls on drawn small tables and queries, right and spoilt, in buffers that lie in junk. Each outcome, and every byte that is to be zero, filled or
  * untouched, is held against the baseline's answer and against the refusals written out here. Prints how many calls there were and how often each outcome occurred; exits 1
  * where one differs, and prints the first that does. */
 #include "baseline.h"
@@ -202,9 +202,9 @@ int main(void)
             print_query(&q, r);
         outcomes[r.outcome <= OJEONBUT_SIZE ? r.outcome : 12]++;
     }
-    bool limit = limit_as_due();
-    printf("drawn calls %d, as due %u; the limit of labels %s\noutcomes:", CASES, as_due, limit ? "as due" : "NOT as due");
+    bool limit = limit_as_due(), version = ojeonbut_version() == OJEONBUT_VERSION;
+    printf("version %s; drawn calls %d, as due %u; the limit of labels %s\noutcomes:", version ? "as due" : "NOT as due", CASES, as_due, limit ? "as due" : "NOT as due");
     for (int i = 0; i <= OJEONBUT_SIZE; i++)
         printf(" %d in %u%s", i, outcomes[i], i < OJEONBUT_SIZE ? "," : "\n");
-    return as_due == CASES && limit ? 0 : 1;
+    return version && as_due == CASES && limit ? 0 : 1;
 }

@@ -1,6 +1,39 @@
 //! Safe calls of the proved route search. Outcomes, tables and buffers are those of include/ojeonbut.h.
 //! What that header asks of a caller, Rust's slices ensure: they are valid for their lengths, and a `&mut` one overlaps no other.
 
+/// The version of include/ojeonbut.h that these calls are for. Each call asks once that the archive linked is of it, and panics where it is not.
+pub const VERSION: u32 = 1;
+
+/// The outcomes, by number. What the number beside each says is in include/ojeonbut.h.
+pub mod outcome {
+    /// All k routes found; from `check`: the table has no fault.
+    pub const FOUND: u32 = 0;
+    /// Fewer than k routes found, and no further one exists.
+    pub const FEWER: u32 = 1;
+    /// A record names a node not below the node count.
+    pub const NODE: u32 = 2;
+    /// A record starts and ends at one node.
+    pub const LOOP: u32 = 3;
+    /// A length is outside 1 to 1,000,000.
+    pub const BAD_LENGTH: u32 = 4;
+    /// Bytes 12 to 15 of a record are not all zero.
+    pub const ZEROS: u32 = 5;
+    /// A record's start node is below the one before it.
+    pub const ORDER: u32 = 6;
+    /// Start or goal not below the node count, or equal.
+    pub const ENDS: u32 = 7;
+    /// k outside 1 to 8.
+    pub const WANTED: u32 = 8;
+    /// b outside 1 to 1,000, or a not below b.
+    pub const THRESHOLD: u32 = 9;
+    /// Area or summaries too few, or labels too many.
+    pub const BUFFERS: u32 = 10;
+    /// A round needs more labels than were lent.
+    pub const ROOM: u32 = 11;
+    /// Node count, table bytes or number of records outside their limits.
+    pub const SIZE: u32 = 13;
+}
+
 /// The outcome's number, and the number beside it.
 #[repr(C)]
 #[derive(Clone, Copy, Debug, PartialEq, Eq)]
@@ -28,6 +61,7 @@ mod raw {
     use super::{Part, Reply, Summary};
 
     extern "C" {
+        pub fn ojeonbut_version() -> u32;
         pub fn ojeonbut_check(table: *const u8, table_bytes: usize, nodes: u32) -> Reply;
         pub fn ojeonbut_arcs_from(table: *const u8, table_bytes: usize, nodes: u32, node: u32) -> Part;
         pub fn ojeonbut_query(
@@ -49,14 +83,27 @@ mod raw {
     }
 }
 
+/// The version of the archive that is linked.
+pub fn version() -> u32 {
+    // SAFETY: it takes nothing and reads nothing.
+    unsafe { raw::ojeonbut_version() }
+}
+
+fn ask_version() {
+    static ASKED: std::sync::Once = std::sync::Once::new();
+    ASKED.call_once(|| assert_eq!(version(), VERSION, "libojeonbut.a is of another version than this binding"));
+}
+
 /// The fault of a table, or outcome 0.
 pub fn check(table: &[u8], nodes: u32) -> Reply {
+    ask_version();
     // SAFETY: the slice is valid for its length, and the call only reads it.
     unsafe { raw::ojeonbut_check(table.as_ptr(), table.len(), nodes) }
 }
 
 /// The records of the arcs that leave `node`; none where the table has a fault or there is no such node.
 pub fn arcs_from(table: &[u8], nodes: u32, node: u32) -> &[u8] {
+    ask_version();
     // SAFETY: as for `check`.
     let part = unsafe { raw::ojeonbut_arcs_from(table.as_ptr(), table.len(), nodes, node) };
     &table[part.place..part.place + part.bytes]
@@ -75,6 +122,7 @@ pub fn query(
     area: &mut [u32],
     summaries: &mut [Summary],
 ) -> Reply {
+    ask_version();
     // SAFETY: each slice is valid for its length; the three that are written are borrowed mutably, so they overlap nothing.
     unsafe {
         raw::ojeonbut_query(

@@ -1,5 +1,5 @@
 //! The scope's example through the safe calls.
-use ojeonbut::{arcs_from, check, query, Reply, Summary};
+use ojeonbut::{arcs_from, check, outcome, query, version, Reply, Summary, VERSION};
 
 const NONE: u32 = u32::MAX;
 
@@ -15,7 +15,7 @@ fn routes() {
     let mut area = [7u32; 13];
     let mut summaries = [Summary { length: 7, arcs: 7, labels: 7 }; 5];
     let r = query(&table, 4, 0, 3, 4, (1, 2), &mut labels, &mut area, &mut summaries);
-    assert_eq!(r, Reply { outcome: 1, number: 0 });
+    assert_eq!(r, Reply { outcome: outcome::FEWER, number: 0 });
     assert!(labels.iter().all(|&b| b == 0));
     assert_eq!(area, [0, 3, NONE, 0, 2, 4, 1, 4, NONE, NONE, NONE, NONE, 7]);
     let rows: Vec<_> = summaries.iter().map(|s| (s.length, s.arcs, s.labels)).collect();
@@ -29,16 +29,21 @@ fn refusals_write_nothing() {
     let mut area = [7u32; 12];
     let mut summaries = [Summary { length: 7, arcs: 7, labels: 7 }; 4];
     let r = query(&table, 4, 0, 3, 4, (1, 1), &mut labels, &mut area, &mut summaries);
-    assert_eq!(r, Reply { outcome: 9, number: 0 });
+    assert_eq!(r, Reply { outcome: outcome::THRESHOLD, number: 0 });
     assert!(labels.iter().all(|&b| b == 85) && area.iter().all(|&w| w == 7) && summaries.iter().all(|s| s.length == 7));
 }
 
 #[test]
 fn table_calls() {
     let table = table();
-    assert_eq!(check(&table, 4), Reply { outcome: 0, number: 0 });
-    assert_eq!(check(&table, 3), Reply { outcome: 2, number: 3 });
+    assert_eq!(check(&table, 4), Reply { outcome: outcome::FOUND, number: 0 });
+    assert_eq!(check(&table, 3), Reply { outcome: outcome::NODE, number: 3 });
     assert_eq!(arcs_from(&table, 4, 1), &table[32..64]);
     assert!(arcs_from(&table, 4, 3).is_empty() && arcs_from(&table, 3, 1).is_empty());
-    assert_eq!(check(&[], 0), Reply { outcome: 13, number: 0 });
+    assert_eq!(check(&[], 0), Reply { outcome: outcome::SIZE, number: 0 });
+}
+
+#[test]
+fn versions_agree() {
+    assert_eq!(version(), VERSION);
 }

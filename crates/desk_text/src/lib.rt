@@ -5,7 +5,7 @@ use desk_input::Asked;
 use outcome::Told;
 use query_rounds::Got;
 ghost use Prim.Native.Nat.{_≤_};
-ghost use lib.ListN.{length};
+ghost use lib.ListN.{length, take};
 ghost use Rattle.desk_input.specs.Text.{mostNodesRead};
 ghost use Rattle.desk_output.specs.Line.{Appended};
 ghost use Rattle.desk_text.specs.Desk.{deskWords, readQuery, replyText, deskText};
@@ -14,6 +14,10 @@ ghost use Rattle.desk_text.specs.Written.{Written, mostText};
 
 // The room that any answer fits in.
 pub const MOST_TEXT: usize = 196608;
+
+// What the program reads. A well-formed text has at most 135,245 bytes (a first line of 77, and
+// 4,096 lines of 33), so what lies past it changes no answer (`desk-cut`).
+pub const MOST_READ: usize = 262144;
 
 const DESK_LABELS: usize = 512;
 
@@ -100,4 +104,16 @@ pub fn desk(text: &[u8], out: &mut [u8]) -> usize
         return 0;
     }
     answer(text, out)
+}
+
+// The same over the desk program's own buffers, whose sizes the types fix: `n` bytes were read.
+pub fn from_buffer(text: &[u8; MOST_READ], n: usize, out: &mut [u8; MOST_TEXT]) -> usize
+    ensures { λ r. ⌜ Appended (now (out .entry)) 0 (deskText (take n (now (text .entry))))
+        (now (out .exit)) r ⌝ }
+{
+    let whole = &text[..];
+    if n < MOST_READ {
+        return answer(&whole[..n], out);
+    }
+    answer(whole, out)
 }

@@ -10,7 +10,7 @@ use Prim.Native.Nat.{ℕ, _≤_, _*_}
 use native.Mathlib.Nat.{mul-le-mul-left, le-trans}
 use lib.Dec.{T, eqb, leb→le, le→leb, eqb→eq}
 use Rattle.lists.specs.Tests.{every, keep}
-use Rattle.net.specs.Route.{endOf, partial, lengthOf, before, precedes, overlap, within, partialsBy, partials}
+use Rattle.net.specs.Route.{endOf, partial, route, lengthOf, before, precedes, overlap, within, partialsBy, partials}
 use Rattle.net.specs.Round.{Query, withinAll, eligible, answer, beats, livesBy, countedWith}
 use Rattle.lists.proofs.TestLaws.{and-i, and-l, and-r, eq→eqb, every-e, every-i, keep-e, keep-i}
 use Rattle.net.proofs.Valid.{Valid}
@@ -39,6 +39,27 @@ module _ (q : Query) (earlier : List (List ℕ)) where
     pub is-partial : T (partial (q .net) (q .s) p)
     pub ends : endOf (q .net .arcs) (q .s) p ≡ q .t
     pub is-within : Within p
+
+  -- the same by the tests
+  pub eligible-of : (p : List ℕ) → T (route (q .net) (q .s) (q .t) p && withinAll q earlier p) → Eligible p
+  unfolding route withinAll within
+  eligible-of p h =
+      let w = within (q .net) (q .a) (q .b) p in
+      let e = eqb (endOf (q .net .arcs) (q .s) p) (q .t) in
+      let r = and-l (partial (q .net) (q .s) p && e) (every w earlier) h in
+      record {
+        is-partial = and-l (partial (q .net) (q .s) p) e r;
+        ends = eqb→eq _ _ (and-r (partial (q .net) (q .s) p) e r);
+        is-within = λ x i. leb→le _ _ (every-e w (and-r (partial (q .net) (q .s) p && e) (every w earlier) h) i);
+      }
+
+  pub of-eligible : (p : List ℕ) → Eligible p → T (route (q .net) (q .s) (q .t) p && withinAll q earlier p)
+  unfolding route withinAll within
+  of-eligible p h =
+      let w = within (q .net) (q .a) (q .b) p in
+      let e = eqb (endOf (q .net .arcs) (q .s) p) (q .t) in
+      and-i (partial (q .net) (q .s) p && e) (every w earlier) (and-i (partial (q .net) (q .s) p) e (h .is-partial) (eq→eqb _ _ (h .ends)))
+      (every-i w earlier (λ x i. le→leb _ _ (h .is-within x i)))
 
   module _ (v : Valid q) where
     listed : (p : List ℕ) → T (partial (q .net) (q .s) p) → List·Memᴰ p (partials (q .net) (q .s))

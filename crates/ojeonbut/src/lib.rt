@@ -5,13 +5,24 @@ ghost use Prim.Native.Nat.{_<_};
 ghost use lib.ListN.{length};
 ghost use Rattle.table.specs.Fault.{tableFault, good};
 ghost use Rattle.query.specs.Query.{input, Replied};
-ghost use Rattle.ojeonbut.specs.Exported.{runPart, partOf};
+ghost use Rattle.ojeonbut.specs.Exported.{version, runPart, partOf};
+
+// OJEONBUT_VERSION of include/ojeonbut.h.
+const VERSION: u32 = 1;
 
 // A part of a table: the place of its first byte, and its number of bytes.
 #[repr(C)]
 pub struct Part {
     pub place: usize,
     pub bytes: usize,
+}
+
+// The version of these calls.
+#[no_mangle]
+pub extern "C" fn ojeonbut_version() -> u32
+    ensures { λ r. ⌜ r ≡ version ⌝ }
+{
+    VERSION
 }
 
 // The fault of a table of so many nodes, or 0.

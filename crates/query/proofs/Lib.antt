@@ -1,3 +1,4 @@
 pub mod DecideLaws
 pub mod Promises
 pub mod Cases
+pub mod Whole

@@ -1,2 +1,3 @@
 pub mod Query
 pub mod Promises
+pub mod Whole

@@ -5,8 +5,8 @@ use Prim.Native.Nat.{ℕ, zero, suc, _+_, _-_, _*_, _≤_, _<_}
 use native.Mathlib.Omega.{arith}
 use mathlib.Core.Bool.{not}
 use lib.Dec.{eqb}
-use lib.ListN.{length, take, drop, replicate, length-replicate, length-take}
-use lib.Seq.{take-append-add, drop-append-add, drop-at}
+use lib.ListN.{length, getD, take, drop, replicate, length-replicate, length-take}
+use lib.Seq.{take-at, take-append-add, drop-append-add, drop-at}
 use Rattle.lists.specs.Tests.{upFrom}
 use Rattle.lists.proofs.LoopLaws.{length-map-upFrom}
 use Rattle.words.specs.Part.{patch, slot}
@@ -91,3 +91,34 @@ area-more w k r l area p n h e =
     ap (λ b. patch (r * w) (r * w + w) b (slotOf w p)) e
     ∙ ap (λ i. patch (i * w) (i * w + w) (slots w k ps ++ drop (k * w) l) (slotOf w p)) (sym m)
     ∙ slots-more w k ps p (drop (k * w) l) (omega arith) (λ x i. earlier-short w 0 r area x i)
+
+-- the first slot, and those after it
+slot-first : (w : ℕ) (x ss rest : List ℕ) → length x ≤ w → slot w 0 ((slotOf w x ++ ss) ++ rest) ≡ slotOf w x
+unfolding slot
+slot-first w x ss rest h =
+    let z : 0 * w ≡ 0 = omega arith in
+    ap (λ i. take w (drop i ((slotOf w x ++ ss) ++ rest))) z ∙ ap (take w) (append-assoc (slotOf w x) ss rest) ∙ take-at (slotOf w x) (ss ++ rest) w (length-slotOf w x h)
+
+slot-next : (w : ℕ) (x ss rest : List ℕ) (j : ℕ) → length x ≤ w → slot w (suc j) ((slotOf w x ++ ss) ++ rest) ≡ slot w j (ss ++ rest)
+unfolding slot
+slot-next w x ss rest j h =
+    let z : suc j * w ≡ length (slotOf w x) + j * w = omega (arith, length-slotOf w x h) in
+    ap (λ i. take w (drop i ((slotOf w x ++ ss) ++ rest))) z
+    ∙ ap (λ y. take w (drop (length (slotOf w x) + j * w) y)) (append-assoc (slotOf w x) ss rest)
+    ∙ ap (take w) (drop-append-add (slotOf w x) (ss ++ rest) (j * w))
+
+blank : (w : ℕ) → replicate w noNumber ≡ slotOf w []
+blank w =
+    let e : w ≡ w - 0 = omega arith in
+    ap (λ n. replicate n noNumber) e
+
+-- slot j of k slots
+pub slots-at : (w k : ℕ) (ps : List (List ℕ)) (rest : List ℕ) (j : ℕ) → ((i : ℕ) → i < length ps → length (getD ps i []) ≤ w) → j < k
+    → slot w j (slots w k ps ++ rest) ≡ slotOf w (getD ps j [])
+unfolding slots slot
+slots-at w zero ps rest j s h = absurd (omega arith)
+slots-at w (suc k) [] rest zero s h = ap (λ l. slot w 0 ((l ++ slots w k []) ++ rest)) (blank w) ∙ slot-first w [] (slots w k []) rest (omega arith)
+slots-at w (suc k) [] rest (suc j) s h =
+    ap (λ l. slot w (suc j) ((l ++ slots w k []) ++ rest)) (blank w) ∙ slot-next w [] (slots w k []) rest j (omega arith) ∙ slots-at w k [] rest j s (omega arith)
+slots-at w (suc k) (x ∷ ps) rest zero s h = slot-first w x (slots w k ps) rest (s 0 (omega arith))
+slots-at w (suc k) (x ∷ ps) rest (suc j) s h = slot-next w x (slots w k ps) rest j (s 0 (omega arith)) ∙ slots-at w k ps rest j (λ i m. s (suc i) (omega arith)) (omega arith)
