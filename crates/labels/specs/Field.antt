@@ -1,11 +1,20 @@
--- The fields of a label in its 96 bytes.
-use mathlib.Core.List.{List}
-use Prim.Native.Nat.{ℕ, _+_, _*_}
+-- The fields of a label in its bytes: a head, and then its overlap with each earlier route.
+use mathlib.Core.List.{List, [], _∷_}
+use Prim.Native.Nat.{ℕ, _+_, _-_, _*_}
+use Rattle.lists.specs.Index.{tab}
 use Rattle.words.specs.Number.{num, put}
+use Rattle.net.specs.Limits.{mostRoutes}
+
+-- A round has at most so many earlier routes.
+abbrev pub mostEarlier : ℕ
+mostEarlier = mostRoutes - 1
+
+abbrev pub headBytes : ℕ
+headBytes = 40
 
 -- "labels of 96 bytes"
 abbrev pub labelBytes : ℕ
-labelBytes = 96
+labelBytes = headBytes + 8 * mostEarlier
 
 -- The last arc of the chain that has none, and what stands in the words of a slot after its arcs.
 abbrev pub noNumber : ℕ
@@ -25,14 +34,32 @@ lengthAt l i = num 8 l (i * labelBytes + 8)
 abbrev pub endAt : List ℕ → ℕ → ℕ
 endAt l i = num 4 l (i * labelBytes + 16)
 
+-- "its overlap with each earlier route": with the r-th, from 0; and with the first r.
+abbrev pub overlapAt : List ℕ → ℕ → ℕ → ℕ
+overlapAt l i r = num 8 l (i * labelBytes + (headBytes + 8 * r))
+
+abbrev pub overlapsAt : List ℕ → ℕ → ℕ → List ℕ
+overlapsAt l i r = tab r (overlapAt l i)
+
 pub record Row : Type 0 where
   pub last-arc : ℕ
   pub extends : ℕ
   pub len : ℕ
   pub end : ℕ
+  pub overlaps : List ℕ
+
+-- The bytes with the head of label i made of the four.
+unfoldable pub putHead : List ℕ → ℕ → ℕ → ℕ → ℕ → ℕ → List ℕ
+unfolding put
+putHead l i arc extends len end =
+    put 4 (put 8 (put 2 (put 4 l (i * labelBytes + 0) arc) (i * labelBytes + 4) extends) (i * labelBytes + 8) len) (i * labelBytes + 16) end
+
+-- Numbers of 64 bits, one after the other from `at` on.
+unfoldable pub puts : List ℕ → ℕ → List ℕ → List ℕ
+puts l at [] = l
+puts l at (x ∷ xs) = puts (put 8 l at x) (at + 8) xs
 
 -- The bytes with label i made of a row; the label's other bytes are left as they are.
 unfoldable pub putRow : List ℕ → ℕ → Row → List ℕ
-unfolding put
-putRow l i x =
-    put 4 (put 8 (put 2 (put 4 l (i * labelBytes + 0) (x .last-arc)) (i * labelBytes + 4) (x .extends)) (i * labelBytes + 8) (x .len)) (i * labelBytes + 16) (x .end)
+unfolding putHead puts
+putRow l i x = puts (putHead l i (x .last-arc) (x .extends) (x .len) (x .end)) (i * labelBytes + headBytes) (x .overlaps)

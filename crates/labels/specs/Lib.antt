@@ -1,4 +1,4 @@
 pub mod Field
 pub mod Chain
-pub mod Standing
 pub mod Rows
+pub mod Standing

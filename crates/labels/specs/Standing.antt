@@ -3,11 +3,12 @@ use mathlib.Core.Path.{_≡_}
 use mathlib.Core.List.{List}
 use Prim.Native.Nat.{ℕ, _*_, _<_, _≤_}
 use lib.ListN.{length}
-use Rattle.net.specs.Net.{Arc}
+use Rattle.net.specs.Net.{Arc, Net}
 use Rattle.net.specs.Route.{endOf, lengthOf}
 use Rattle.net.specs.Limits.{mostNodes, mostLength, mostLabels}
-use Rattle.labels.specs.Field.{labelBytes, lastArcAt, extendsAt, lengthAt, endAt}
+use Rattle.labels.specs.Field.{labelBytes, mostEarlier, lastArcAt, extendsAt, lengthAt, endAt, overlapsAt}
 use Rattle.labels.specs.Chain.{chainAt}
+use Rattle.labels.specs.Rows.{overlapsOf}
 
 -- There is room for n labels, and each but the first extends a lower one.
 pub record Down (l : List ℕ) (n : ℕ) : Type 0 where
@@ -23,3 +24,8 @@ pub record Standing (arcs : List Arc) (s : ℕ) (l : List ℕ) (n : ℕ) : Type 
   pub ends : (i : ℕ) → i < n → endAt l i ≡ endOf arcs s (chainAt l i)
   pub short : (i : ℕ) → i < n → length (chainAt l i) < mostNodes
   pub most : (i : ℕ) → i < n → lengthAt l i ≤ mostNodes * mostLength
+
+-- The first n labels hold the overlap of their chains with each earlier route.
+pub record Holding (net : Net) (earlier : List (List ℕ)) (l : List ℕ) (n : ℕ) : Type 0 where
+  pub few : length earlier ≤ mostEarlier
+  pub overlaps : (i : ℕ) → i < n → overlapsAt l i (length earlier) ≡ overlapsOf net earlier (chainAt l i)

@@ -7,7 +7,7 @@ use mathlib.Core.Logic.{_⊎_, ⊎-elim, _≢_}
 use Prim.Native.Nat.{ℕ, zero, suc, _+_, _-_, _≤_, _<_}
 use native.Mathlib.Omega.{arith}
 use native.Mathlib.Numerals.{add-one}
-use lib.ListN.{length, getD, set}
+use lib.ListN.{length, getD, set, take, replicate}
 use Rattle.lists.specs.Index.{tab, firstAt}
 use Rattle.lists.proofs.Cases.{cases, order}
 
@@ -114,3 +114,9 @@ module _ {A : Type 0} where
   tab-set (suc n) f g zero h e = cc (tab-cong n (λ j. f (suc j)) (λ j. g (suc j)) (λ j w. e (suc j) (λ q. omega arith)))
   tab-set (suc n) f g (suc i) h e =
       cc (e 0 (λ q. omega arith), tab-set n (λ j. f (suc j)) (λ j. g (suc j)) i (omega arith) (λ j ne. e (suc j) (λ q. ne (omega arith))))
+
+  -- of one entry again and again, the first m
+  pub take-replicate : (m n : ℕ) (x : A) → m ≤ n → take m (replicate n x) ≡ replicate m x
+  take-replicate zero n x h = refl
+  take-replicate (suc m) zero x h = absurd (omega arith)
+  take-replicate (suc m) (suc n) x h = ap {B = List A} (λ l. x ∷ l) (take-replicate m n x (omega arith))

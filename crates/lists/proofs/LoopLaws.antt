@@ -1,10 +1,11 @@
--- Loops over the indices from i up to n, over what `f` gives at each: at the end nothing is left, a turn takes the first of what is left. An invariant says
--- that what is left gives the whole.
-use mathlib.Core.Path.{_≡_, refl, ap, _∙_}
-use mathlib.Core.Bool.{Bool, true, false}
+-- Loops over the indices from i up to n: over what `f` gives at each, and such as test each. At the end nothing is left, a turn takes the first of what is
+-- left, and an invariant says that what is left gives the whole. Where a test of each index agrees with a test of a list's entries, so do the two over all.
+use mathlib.Core.Path.{_≡_, refl, ap, ap₂, _∙_}
+use mathlib.Core.Bool.{Bool, true, false, _&&_, _||_}
 use mathlib.Core.List.{List, [], _∷_, _++_, map, map-append}
 use Prim.Native.Nat.{ℕ, zero, suc, _+_, _-_, _≤_, _<_}
 use native.Mathlib.Omega.{arith}
+use native.Mathlib.Nat.{sub-zero}
 use native.Mathlib.Numerals.{add-one}
 use lib.ListN.{length, getD, length-map}
 use Rattle.lists.specs.Tests.{upFrom, every, any}
@@ -53,27 +54,65 @@ module _ {A : Type 0} (f : ℕ → A) where
   map-upFrom-cong g i zero h = refl
   map-upFrom-cong g i (suc n) h = cc (h i (omega arith) (omega arith), map-upFrom-cong g (suc i) n (λ j a b. h j (omega arith) (omega arith)))
 
-module _ {A : Type 0} (p : A → Bool) (f : ℕ → A) where
-  pub every-done : (i n : ℕ) → n ≤ i → every p (gives f i n) ≡ true
+-- ---- a test at each index from i up to n
+
+-- the indices that are left
+abbrev pub rest : ℕ → ℕ → List ℕ
+rest n j = upFrom j (n - j)
+
+module _ (p : ℕ → Bool) (i n : ℕ) where
+  rest-step : i < n → rest n i ≡ i ∷ rest n (i + 1)
+  unfolding upFrom
+  rest-step h =
+      let e : n - i ≡ suc (n - (i + 1)) = omega arith in
+      rw (e, add-one)
+
+  rest-done : n ≤ i → rest n i ≡ []
+  unfolding upFrom
+  rest-done h =
+      let e : n - i ≡ 0 = omega arith in
+      rw e
+
+  pub each-done : n ≤ i → every p (rest n i) ≡ true
   unfolding every
-  every-done i n h = ap (every p) (gives-done f i n h)
+  each-done h = ap (every p) (rest-done h)
 
-  pub every-step : (i n : ℕ) → i < n → p (f i) ≡ true → every p (gives f i n) ≡ every p (gives f (i + 1) n)
+  pub each-step : i < n → p i ≡ true → every p (rest n i) ≡ every p (rest n (i + 1))
   unfolding every
-  every-step i n h e = rw (gives-step f i n h, e)
+  each-step h e = rw (rest-step h, e)
 
-  pub every-stop : (i n : ℕ) → i < n → p (f i) ≡ false → every p (gives f i n) ≡ false
+  pub each-stop : i < n → p i ≡ false → every p (rest n i) ≡ false
   unfolding every
-  every-stop i n h e = rw (gives-step f i n h, e)
+  each-stop h e = rw (rest-step h, e)
 
-  pub any-done : (i n : ℕ) → n ≤ i → any p (gives f i n) ≡ false
+  pub one-done : n ≤ i → any p (rest n i) ≡ false
   unfolding any
-  any-done i n h = ap (any p) (gives-done f i n h)
+  one-done h = ap (any p) (rest-done h)
 
-  pub any-step : (i n : ℕ) → i < n → p (f i) ≡ false → any p (gives f i n) ≡ any p (gives f (i + 1) n)
+  pub one-step : i < n → p i ≡ false → any p (rest n i) ≡ any p (rest n (i + 1))
   unfolding any
-  any-step i n h e = rw (gives-step f i n h, e)
+  one-step h e = rw (rest-step h, e)
 
-  pub any-stop : (i n : ℕ) → i < n → p (f i) ≡ true → any p (gives f i n) ≡ true
+  pub one-stop : i < n → p i ≡ true → any p (rest n i) ≡ true
   unfolding any
-  any-stop i n h e = rw (gives-step f i n h, e)
+  one-stop h e = rw (rest-step h, e)
+
+pub from-first : (f : List ℕ → Bool) (n : ℕ) → f (upFrom 0 (n - 0)) ≡ f (upFrom 0 n)
+from-first f n = rw sub-zero
+
+-- ---- indices in a list's place
+
+module _ {A : Type 0} (f : A → Bool) (p : ℕ → Bool) (d : A) where
+  pub every-at : (l : List A) (i : ℕ) → ((j : ℕ) → j < length l → p (i + j) ≡ f (getD l j d)) → every p (upFrom i (length l)) ≡ every f l
+  unfolding every upFrom
+  every-at [] i h = refl
+  every-at (x ∷ l) i h =
+      let here : p i ≡ f x = ap p (omega arith) ∙ h 0 (omega arith) in
+      ap₂ _&&_ here (every-at l (suc i) (λ j b. ap p (omega arith) ∙ h (suc j) (omega arith)))
+
+  pub any-at : (l : List A) (i : ℕ) → ((j : ℕ) → j < length l → p (i + j) ≡ f (getD l j d)) → any p (upFrom i (length l)) ≡ any f l
+  unfolding any upFrom
+  any-at [] i h = refl
+  any-at (x ∷ l) i h =
+      let here : p i ≡ f x = ap p (omega arith) ∙ h 0 (omega arith) in
+      ap₂ _||_ here (any-at l (suc i) (λ j b. ap p (omega arith) ∙ h (suc j) (omega arith)))

@@ -65,7 +65,7 @@ fn too_small(table: &[u8], ask: Ask, k: u32, labels: &[u8], area: &[u32], lent: 
 
 // The decisions before the rounds: 13 and the records, then 7, 8, 9 and 10; 0 where the rounds are
 // to be made.
-fn refused(table: &[u8], ask: Ask, k: u32, labels: &[u8], area: &[u32], lent: usize) -> Told
+pub fn refused(table: &[u8], ask: Ask, k: u32, labels: &[u8], area: &[u32], lent: usize) -> Told
     ensures { λ r. ⌜ r ≡ refusedOf
         (asked (now (table .entry)) ask k (now (labels .entry)) (now (area .entry)) lent) ⌝ }
 {

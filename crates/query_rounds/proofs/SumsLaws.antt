@@ -7,6 +7,7 @@ use native.Mathlib.Omega.{arith}
 use lib.ListN.{length, getD, set, take, replicate, length-append, length-map, List·getD-append}
 use lib.Seq.{getD-set-same, getD-set-other, set-append-left, set-at, getD-at, take-append-add, take-append-le}
 use Rattle.lists.proofs.Cases.{order}
+use Rattle.lists.proofs.IndexLaws.{take-replicate}
 use Rattle.net.specs.Limits.{mostRoutes}
 use Rattle.net.specs.Round.{Query, Ending}
 use Rattle.net.specs.Outcome.{summary, summaries, notBegun}
@@ -80,11 +81,6 @@ firsts-take t k (suc n) h = ⊎-elim
     subst (λ i. take i (firsts t (suc n)) ≡ firsts t i) e (lib.Seq.take-all (suc n) (firsts t (suc n)) (omega (arith, length-firsts t (suc n)))))
     (order k n)
 
-take-replicate : (m n : ℕ) → m ≤ n → take m (replicate n notBegun) ≡ replicate m notBegun
-take-replicate zero n h = refl
-take-replicate (suc m) zero h = absurd (omega arith)
-take-replicate (suc m) (suc n) h = ap (λ l. notBegun ∷ l) (take-replicate m n (omega arith))
-
 take-map : {A B : Type 0} (f : A → B) (n : ℕ) (xs : List A) → take n (map f xs) ≡ map f (take n xs)
 take-map f zero xs = refl
 take-map f (suc n) [] = refl
@@ -99,4 +95,4 @@ shows-first q t made k s h i =
     sym (firsts-take t k mostRoutes i) ∙ ap (take k) s ∙ take-map asRecord k (map (summary q) made ++ replicate (mostRoutes - length made) notBegun)
     ∙ ap (map asRecord) (ap (λ x. take x (map (summary q) made ++ replicate (mostRoutes - length made) notBegun)) j
     ∙ take-append-add (map (summary q) made) (replicate (mostRoutes - length made) notBegun) (k - length made)
-    ∙ ap (λ l. map (summary q) made ++ l) (take-replicate (k - length made) (mostRoutes - length made) (omega arith)))
+    ∙ ap (λ l. map (summary q) made ++ l) (take-replicate (k - length made) (mostRoutes - length made) notBegun (omega arith)))

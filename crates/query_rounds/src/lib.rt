@@ -29,7 +29,7 @@ pub struct Progress {
     pub sums: Sums,
 }
 
-const GOING: u8 = 0;
+pub const GOING: u8 = 0;
 
 const FOUND: u8 = 1;
 
@@ -45,7 +45,7 @@ fn stage_after(r: usize, k: usize) -> u8
 }
 
 // One round more.
-fn step(
+pub fn step(
     table: &[u8],
     ask: Ask,
     k: usize,

@@ -2,21 +2,23 @@
 -- search says it of its state's n labels, and as many labels are held; the answer is the chain of the last of them.
 use mathlib.Core.Path.{_≡_, refl, sym, ap, subst, _∙_}
 use mathlib.Core.Logic.{_≢_}
-use mathlib.Core.List.{List, _++_}
+use mathlib.Core.List.{List, [], _++_}
 use Prim.Native.Nat.{ℕ, zero, suc, pred, _+_, _-_, _*_, _≤_, _<_}
 use native.Mathlib.Omega.{arith}
-use lib.ListN.{length, replicate}
+use lib.ListN.{length, getD, replicate, length-take}
+use lib.Seq.{getD-take}
 use Rattle.lists.specs.Tests.{upFrom}
 use Rattle.lists.proofs.LoopLaws.{length-map-upFrom}
 use borrow.Rule.Slice.PartMut.{putMid, midOf}
 use Rattle.words.specs.Part.{patch}
 use Rattle.words.proofs.PartLaws.{back, lent}
-use Rattle.net.specs.Round.{Query, Ending, answered, unanswered, refused}
+use Rattle.net.specs.Round.{Query, counted, Ending, answered, unanswered, refused}
 use Rattle.net.specs.Labels.{held}
-use Rattle.labels.specs.Field.{noNumber, lengthAt}
+use Rattle.labels.specs.Field.{noNumber, lengthAt, overlapsAt}
 use Rattle.labels.specs.Chain.{chainAt, chainsIn, labelAt, labelsIn, slotOf}
 use Rattle.labels.specs.Standing.{Standing}
-use Rattle.labels.specs.Rows.{labelled}
+use Rattle.labels.specs.Rows.{overlapsOf, labelled}
+use Rattle.labels.proofs.StoreLaws.{length-chainsIn, getD-chainsIn}
 use Rattle.labels.proofs.RowLaws.{labelled-none}
 use Rattle.round_turn.specs.declared.State.{State}
 use Rattle.round.specs.declared.Ended.{Ended}
@@ -53,6 +55,13 @@ slot-written w r area p ys h e =
     back (r * w) (r * w + w) area ys (omega arith) ∙ ap (patch (r * w) (r * w + w) area) (e ∙ ap (λ k. slotOf k p) n)
 
 module _ (q : Query) (earlier : List (List ℕ)) (w r : ℕ) (area l l′ : List ℕ) (y : State) (h : Searched q earlier l l′ y) where
+  -- label i holds the overlaps of the i-th that is counted
+  over-held : {e : Ending} → Over q earlier l′ (y .n) e → (i : ℕ) → i < y .n → overlapsAt l′ i (length earlier) ≡ overlapsOf (q .net) earlier (getD (counted q earlier) i [])
+  over-held o i b =
+      let within : i < q .room = omega (arith, ap length (o .chains), length-chainsIn l′ (y .n), length-take (q .room) (counted q earlier)) in
+      o .holding .overlaps i b
+      ∙ ap (overlapsOf (q .net) earlier) (sym (getD-chainsIn l′ (y .n) i b) ∙ ap (λ ps. getD ps i []) (o .chains) ∙ getD-take (q .room) (counted q earlier) i [] within)
+
   -- over any area that is as the ending says
   rounded : (e : Ending) (x : Ended) (area′ : List ℕ) → Over q earlier l′ (y .n) e → x ≡ shown q e → area′ ≡ areaAfter w r area e → Rounded q earlier w r area area′ l l′ x
   unfolding chainsIn upFrom
@@ -61,7 +70,8 @@ module _ (q : Query) (earlier : List (List ℕ)) (w r : ℕ) (area l l′ : List
       record {
         ends = s ∙ ap (shown q) (sym (o .ends));
         holds = ap (labelsIn l′) n ∙ o .holds;
-        bytes = h .keeps l (sym (labelled-none (q .net .arcs) (q .s) l)) ∙ ap (labelled (q .net .arcs) (q .s) l) (o .chains);
+        overlaps = λ i b. over-held o i (omega (arith, n));
+        bytes = h .keeps l (sym (labelled-none (q .net) (q .s) earlier l)) ∙ ap (labelled (q .net) (q .s) earlier l) (o .chains);
         slot = k ∙ ap (areaAfter w r area) (sym (o .ends));
       }
 

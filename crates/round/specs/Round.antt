@@ -1,14 +1,15 @@
 -- What a round leaves behind.
 use mathlib.Core.Path.{_≡_}
-use mathlib.Core.List.{List}
-use Prim.Native.Nat.{ℕ, _+_, _*_}
-use lib.ListN.{length, take}
+use mathlib.Core.List.{List, []}
+use Prim.Native.Nat.{ℕ, _+_, _*_, _<_}
+use lib.ListN.{length, getD, take}
 use Rattle.net.specs.Route.{lengthOf}
 use Rattle.net.specs.Round.{Query, counted, Ending, answered, unanswered, refused, ending}
 use Rattle.net.specs.Labels.{held}
 use Rattle.words.specs.Part.{patch}
 use Rattle.labels.specs.Chain.{slotOf, labelsIn}
-use Rattle.labels.specs.Rows.{labelled}
+use Rattle.labels.specs.Field.{overlapsAt}
+use Rattle.labels.specs.Rows.{overlapsOf, labelled}
 use Rattle.round.specs.declared.Ended.{Ended}
 use Rattle.round.specs.declared.Ended.the-variants.{Answer, NoAnswer, Refused}
 
@@ -26,10 +27,11 @@ areaAfter w r area (answered p n) = patch (r * w) (r * w + w) area (slotOf w p)
 areaAfter w r area (unanswered n) = area
 areaAfter w r area refused = area
 
--- What round r of a query leaves: how it ended; the labels, "when a round ends and before its labels are cleared", each by its last arc and the label it extends;
--- every byte of the label buffer; and the route area.
+-- What round r of a query leaves: how it ended; the labels, "when a round ends and before its labels are cleared", each by its last arc and the label it extends,
+-- and with "its overlap with each earlier route"; every byte of the label buffer; and the route area.
 pub record Rounded (q : Query) (earlier : List (List ℕ)) (w r : ℕ) (area area′ labels labels′ : List ℕ) (x : Ended) : Type 0 where
   pub ends : x ≡ shown q (ending q earlier)
   pub holds : labelsIn labels′ (length (held q earlier)) ≡ held q earlier
-  pub bytes : labels′ ≡ labelled (q .net .arcs) (q .s) labels (take (q .room) (counted q earlier))
+  pub overlaps : (i : ℕ) → i < length (held q earlier) → overlapsAt labels′ i (length earlier) ≡ overlapsOf (q .net) earlier (getD (counted q earlier) i [])
+  pub bytes : labels′ ≡ labelled (q .net) (q .s) earlier labels (take (q .room) (counted q earlier))
   pub slot : area′ ≡ areaAfter w r area (ending q earlier)

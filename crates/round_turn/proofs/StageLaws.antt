@@ -15,7 +15,7 @@ use Rattle.round_turn.specs.Stage.{Going, StageAt, Stage, leftIn, Keeps,
 pub record Since (q : Query) (earlier : List (List ℕ)) (l₀ : List ℕ) (x₀ : State) (l : List ℕ) (x : State) : Type 0 where
   pub long : length l ≡ length l₀
   pub stage : Stage q earlier l x
-  pub keeps : Keeps q l₀ (x₀ .n) l (x .n)
+  pub keeps : Keeps q earlier l₀ (x₀ .n) l (x .n)
 
 module _ (ask : Ask) (t : List ℕ) (earlier : List (List ℕ)) where
   pub query-same : (l l′ : List ℕ) → length l ≡ length l′ → queryFor ask t l ≡ queryFor ask t l′

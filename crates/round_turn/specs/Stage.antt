@@ -13,9 +13,9 @@ use Rattle.net.specs.Labels.{held}
 use Rattle.net.specs.Limits.{mostLabels}
 use Rattle.net.specs.Search.{upTo, left}
 use Rattle.table.specs.Table.{arcsOf}
-use Rattle.labels.specs.Field.{Row, putRow}
+use Rattle.labels.specs.Field.{mostEarlier, Row, putRow}
 use Rattle.labels.specs.Chain.{chainAt, chainsIn, labelsIn}
-use Rattle.labels.specs.Standing.{Standing}
+use Rattle.labels.specs.Standing.{Standing, Holding}
 use Rattle.labels.specs.Rows.{labelled}
 use Rattle.search_ask.specs.declared.Ask.{Ask}
 use Rattle.search_ask.specs.declared.Candidate.{Candidate}
@@ -23,10 +23,12 @@ use Rattle.search_ask.specs.Ask.{Accepted, Points, roomIn, width, chainOf, last
 use Rattle.search_ask.specs.Earlier.{Earlier}
 use Rattle.round_turn.specs.declared.State.{State}
 
--- What a search asks: an accepted ask, the earlier answers in their slots with their lengths, and no more room than labels may have.
+-- What a search asks: an accepted ask, the earlier answers in their slots with their lengths, no more of them than a label has
+-- overlaps, and no more room than labels may have.
 pub record Ready (ask : Ask) (table area lens labels : List ℕ) : Type 0 where
   pub accepted : Accepted ask table
   pub earlier : Earlier (arcsOf table) (width ask) (length lens) area lens
+  pub few : length lens ≤ mostEarlier
   pub room : roomIn labels ≤ mostLabels
 
 -- The order of rule 3.
@@ -36,6 +38,7 @@ guide q = lengthOf (q .net .arcs)
 -- The search goes on: the labels' chains are the live partial routes not after the one last looked at, and none ends at t.
 pub record Going (q : Query) (earlier : List (List ℕ)) (labels : List ℕ) (x : State) : Type 0 where
   pub standing : Standing (q .net .arcs) (q .s) labels (x .n)
+  pub holding : Holding (q .net) earlier labels (x .n)
   pub begun : x .n ≢ 0
   pub fits : x .n ≤ q .room
   pub points : Points (q .net) (q .s) labels (x .n) (x .last)
@@ -46,6 +49,7 @@ pub record Going (q : Query) (earlier : List (List ℕ)) (labels : List ℕ) (x 
 -- The search has ended so: its labels hold what the round counts, as many as there is room for.
 pub record Over (q : Query) (earlier : List (List ℕ)) (labels : List ℕ) (n : ℕ) (e : Ending) : Type 0 where
   pub standing : Standing (q .net .arcs) (q .s) labels n
+  pub holding : Holding (q .net) earlier labels n
   pub ends : ending q earlier ≡ e
   pub chains : chainsIn labels n ≡ take (q .room) (counted q earlier)
   pub holds : labelsIn labels n ≡ held q earlier
@@ -65,28 +69,29 @@ abbrev pub leftIn : Query → List ℕ → State → ℕ
 leftIn q labels x = left (guide q) (q .net) (q .s) (q .room) (chainsIn labels (x .n)) (lastIn labels (x .last)) + (1 - x .stage)
 
 -- The bytes stay those of the chains taken up, over any bytes l of which they were so.
-abbrev pub Keeps : Query → List ℕ → ℕ → List ℕ → ℕ → Type 0
-Keeps q labels n labels′ n′ =
-    (l : List ℕ) → labels ≡ labelled (q .net .arcs) (q .s) l (chainsIn labels n) → labels′ ≡ labelled (q .net .arcs) (q .s) l (chainsIn labels′ n′)
+abbrev pub Keeps : Query → List (List ℕ) → List ℕ → ℕ → List ℕ → ℕ → Type 0
+Keeps q earlier labels n labels′ n′ =
+    (l : List ℕ) → labels ≡ labelled (q .net) (q .s) earlier l (chainsIn labels n) → labels′ ≡ labelled (q .net) (q .s) earlier l (chainsIn labels′ n′)
 
--- The row of a candidate's label.
-abbrev pub rowFor : List Arc → ℕ → List ℕ → Candidate → Row
-rowFor arcs s labels c = record { last-arc = c .arc; extends = c .label; len = lengthOf arcs (chainOf labels c); end = endOf arcs s (chainOf labels c) }
+-- The row of a candidate's label, with its overlaps.
+abbrev pub rowFor : List Arc → ℕ → List ℕ → Candidate → List ℕ → Row
+rowFor arcs s labels c own =
+    record { last-arc = c .arc; extends = c .label; len = lengthOf arcs (chainOf labels c); end = endOf arcs s (chainOf labels c); overlaps = own }
 
 -- What taking a candidate up as label n does.
-pub record Taken (ask : Ask) (table labels : List ℕ) (n : ℕ) (c : Candidate) (labels′ : List ℕ) (y : State) : Type 0 where
-  pub bytes : labels′ ≡ putRow labels n (rowFor (arcsOf table) (ask .s) labels c)
+pub record Taken (ask : Ask) (table labels : List ℕ) (n : ℕ) (c : Candidate) (own labels′ : List ℕ) (y : State) : Type 0 where
+  pub bytes : labels′ ≡ putRow labels n (rowFor (arcsOf table) (ask .s) labels c own)
   pub state : y ≡ record { n = n + 1; last = c; stage = cond (eqb (endOf (arcsOf table) (ask .s) (chainOf labels c)) (ask .goal)) 1 0 }
 
 -- What a turn does.
 pub record Turned (q : Query) (earlier : List (List ℕ)) (labels : List ℕ) (x : State) (labels′ : List ℕ) (y : State) : Type 0 where
   pub long : length labels′ ≡ length labels
   pub stage : Stage q earlier labels′ y
-  pub keeps : Keeps q labels (x .n) labels′ (y .n)
+  pub keeps : Keeps q earlier labels (x .n) labels′ (y .n)
   pub less : leftIn q labels′ y < leftIn q labels x
 
 -- What all turns so far have done, from bytes without a label.
 pub record Searched (q : Query) (earlier : List (List ℕ)) (labels labels′ : List ℕ) (y : State) : Type 0 where
   pub long : length labels′ ≡ length labels
   pub stage : Stage q earlier labels′ y
-  pub keeps : Keeps q labels 0 labels′ (y .n)
+  pub keeps : Keeps q earlier labels 0 labels′ (y .n)

@@ -9,7 +9,7 @@ ghost use mathlib.Core.Logic.{_≢_};
 ghost use Prim.Native.Nat.{_+_, _*_, _≤_, _<_};
 ghost use lib.ListN.{length};
 ghost use Rattle.net.specs.Limits.{mostLabels};
-ghost use Rattle.labels.specs.Field.{labelBytes};
+ghost use Rattle.labels.specs.Field.{labelBytes, mostEarlier};
 ghost use Rattle.search_ask.specs.Ask.{Accepted, Searching, Among, queryFor, roomIn};
 ghost use Rattle.search_ask.specs.Earlier.{earlierOf};
 ghost use Rattle.round_turn.specs.Stage.{Ready, Going, Taken, Turned, Searched};
@@ -29,19 +29,21 @@ pub const NO_ANSWER: u8 = 2;
 
 pub const REFUSED: u8 = 3;
 
-// The candidate becomes label n: an answer, where it ends at the goal.
-fn take_up(table: &[u8], ask: Ask, labels: &mut [u8], n: usize, c: Candidate) -> State
+// The candidate, whose overlaps are `own`, becomes label n: an answer, where it ends at the goal.
+fn take_up(table: &[u8], ask: Ask, labels: &mut [u8], n: usize, c: Candidate, own: &[u64]) -> State
     requires { ⌜ (Searching ask (now table) (now labels) n) × (Among (now table) n c)
-        × (n < mostLabels) × (n * labelBytes + labelBytes ≤ length (now labels)) ⌝ }
+        × (n < mostLabels) × (n * labelBytes + labelBytes ≤ length (now labels))
+        × (length (now own) ≤ mostEarlier) ⌝ }
     ensures { λ y. ⌜ Taken ask (now (table .entry)) (now (labels .entry)) n c
-        (now (labels .exit)) y ⌝ }
+        (now (own .entry)) (now (labels .exit)) y ⌝ }
 {
     let label = c.label;
     let arc = c.arc;
     let goal = ask.goal;
     let end = table::arc::to_of(table, arc);
     let len = search_order::length_of(table, ask, labels, n, c);
-    labels::field::put(labels, n, arc as u32, label as u16, len, end);
+    labels::field::put_head(labels, n, arc as u32, label as u16, len, end);
+    labels::field::put_overlaps(labels, n, own);
     State {
         n: n + 1,
         last: c,
@@ -69,12 +71,12 @@ fn turn(table: &[u8], ask: Ask, area: &[u32], lens: &[u64], labels: &mut [u8], x
             stage: NO_ANSWER,
         };
     }
-    let trial = Trial {
-        r: lens.len(),
-        n: n,
-        c: c,
-    };
-    if !search_trial::passes(table, ask, area, lens, labels, trial) {
+    let r = lens.len();
+    let trial = Trial { r: r, n: n, c: c };
+    let mut own = [0u64; labels::field::MOST_EARLIER];
+    search_trial::overlap::of_candidate(table, ask, area, labels, trial, &mut own);
+    let end = table::arc::to_of(table, c.arc);
+    if !search_trial::passes(ask, lens, labels, n, end, &own[0..r]) {
         return State {
             n: n,
             last: c,
@@ -88,7 +90,7 @@ fn turn(table: &[u8], ask: Ask, area: &[u32], lens: &[u64], labels: &mut [u8], x
             stage: REFUSED,
         };
     }
-    take_up(table, ask, labels, n, c)
+    take_up(table, ask, labels, n, c, &own[0..r])
 }
 
 // The first label, the empty chain at s; or no room for it.
@@ -110,7 +112,9 @@ fn begin(table: &[u8], ask: Ask, area: &[u32], lens: &[u64], labels: &mut [u8]) 
         };
     }
     let s = ask.s;
-    labels::field::put(labels, 0, labels::field::NONE, 0, 0, s);
+    let zeros = [0u64; labels::field::MOST_EARLIER];
+    labels::field::put_head(labels, 0, labels::field::NONE, 0, 0, s);
+    labels::field::put_overlaps(labels, 0, &zeros[0..lens.len()]);
     State {
         n: 1,
         last: none,

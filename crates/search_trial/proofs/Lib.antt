@@ -1,2 +1,2 @@
 pub mod OverlapLaws
-pub mod CoverLaws
+pub mod TrialLaws

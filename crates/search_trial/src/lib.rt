@@ -1,18 +1,15 @@
-// The two tests on a candidate: it is within the threshold of every earlier answer, and no label at
-// its end covers it.
+// The two tests on a candidate, by its overlaps and those that the labels hold: it is within the
+// threshold of every earlier answer, and no label at its end covers it.
 pub mod overlap;
 
 use search_ask::Ask;
 use search_ask::Candidate;
 ghost use mathlib.Core.Path.{_≡_};
-ghost use Prim.Native.Nat.{_<_};
-ghost use Rattle.net.specs.Round.{withinAll, noGreater};
-ghost use Rattle.net.specs.Search.{covered, passes};
-ghost use Rattle.table.specs.Table.{arcsOf};
-ghost use Rattle.labels.specs.Chain.{chainAt, chainsIn};
-ghost use Rattle.search_ask.specs.Ask.{queryFor, width, chainOf};
-ghost use Rattle.search_ask.specs.Earlier.{Earlier, earlierIn};
-ghost use Rattle.search_trial.specs.Trial.{Trying};
+ghost use Prim.Native.Nat.{_+_, _*_, _≤_};
+ghost use lib.ListN.{length};
+ghost use Rattle.labels.specs.Field.{labelBytes, mostEarlier};
+ghost use Rattle.search_trial.specs.Trial.{Measured};
+ghost use Rattle.search_trial.specs.Trial.{withinEach, noneGreater, coveredAt, passesAt};
 
 // A candidate on trial, after r earlier answers and with n labels.
 pub struct Trial {
@@ -21,23 +18,16 @@ pub struct Trial {
     pub c: Candidate,
 }
 
-// Whether it is within the threshold of each earlier answer; `lens` are their lengths.
-fn within(table: &[u8], ask: Ask, area: &[u32], lens: &[u64], labels: &[u8], x: Trial) -> bool
-    requires { ⌜ (Trying ask (now table) (now area) (now labels) x)
-        × (Earlier (arcsOf (now table)) (width ask) (x .r) (now area) (now lens)) ⌝ }
-    ensures { λ y. ⌜ y ≡ withinAll (queryFor ask (now (table .entry)) (now (labels .entry)))
-        (earlierIn (width ask) (x .r) (now (area .entry)))
-        (chainOf (now (labels .entry)) (x .c)) ⌝ }
+// Whether each overlap is within the threshold of the earlier answer's length.
+fn within(ask: Ask, lens: &[u64], own: &[u64]) -> bool
+    requires { ⌜ Measured ask (now lens) (now own) ⌝ }
+    ensures { λ y. ⌜ y ≡ withinEach (ask .a) (ask .b) (now (lens .entry)) (now (own .entry)) ⌝ }
 {
     let above = ask.a as u64;
     let below = ask.b as u64;
-    let r = x.r;
-    let n = x.n;
-    let c = x.c;
     let mut j = 0;
-    while j < r {
-        let o = overlap::of_candidate(table, ask, search_ask::slot(area, ask, j), labels, n, c);
-        if above * lens[j] < below * o {
+    while j < own.len() {
+        if above * lens[j] < below * own[j] {
             return false;
         }
         j += 1;
@@ -45,21 +35,15 @@ fn within(table: &[u8], ask: Ask, area: &[u32], lens: &[u64], labels: &[u8], x: 
     true
 }
 
-// Whether label k has no greater overlap than it with each earlier answer.
-fn no_greater(table: &[u8], ask: Ask, area: &[u32], labels: &[u8], x: Trial, k: usize) -> bool
-    requires { ⌜ (Trying ask (now table) (now area) (now labels) x) × (k < x .n) ⌝ }
-    ensures { λ y. ⌜ y ≡ noGreater (queryFor ask (now (table .entry)) (now (labels .entry)))
-        (earlierIn (width ask) (x .r) (now (area .entry)))
-        (chainAt (now (labels .entry)) k) (chainOf (now (labels .entry)) (x .c)) ⌝ }
+// Whether label k has no greater overlap with each earlier answer.
+fn no_greater(labels: &[u8], k: usize, own: &[u64]) -> bool
+    requires { ⌜ (k * labelBytes + labelBytes ≤ length (now labels))
+        × (length (now own) ≤ mostEarlier) ⌝ }
+    ensures { λ y. ⌜ y ≡ noneGreater (now (labels .entry)) k (now (own .entry)) ⌝ }
 {
-    let earlier = x.r;
-    let n = x.n;
-    let c = x.c;
     let mut j = 0;
-    while j < earlier {
-        let o = overlap::of_candidate(table, ask, search_ask::slot(area, ask, j), labels, n, c);
-        let own = overlap::of_label(table, ask, search_ask::slot(area, ask, j), labels, n, k);
-        if o < own {
+    while j < own.len() {
+        if own[j] < labels::field::overlap(labels, k, j) {
             return false;
         }
         j += 1;
@@ -67,21 +51,15 @@ fn no_greater(table: &[u8], ask: Ask, area: &[u32], labels: &[u8], x: Trial, k: 
     true
 }
 
-// Whether one of the labels covers it.
-fn covered(table: &[u8], ask: Ask, area: &[u32], labels: &[u8], x: Trial) -> bool
-    requires { ⌜ Trying ask (now table) (now area) (now labels) x ⌝ }
-    ensures { λ y. ⌜ y ≡ covered (queryFor ask (now (table .entry)) (now (labels .entry)))
-        (earlierIn (width ask) (x .r) (now (area .entry)))
-        (chainsIn (now (labels .entry)) (x .n)) (chainOf (now (labels .entry)) (x .c)) ⌝ }
+// Whether one of n labels covers a candidate that ends there.
+fn covered(labels: &[u8], n: usize, end: u32, own: &[u64]) -> bool
+    requires { ⌜ (n * labelBytes ≤ length (now labels)) × (length (now own) ≤ mostEarlier) ⌝ }
+    ensures { λ y. ⌜ y ≡ coveredAt (now (labels .entry)) n end (now (own .entry)) ⌝ }
 {
-    let n = x.n;
-    let c = x.c;
-    let arc = c.arc;
-    let v = table::arc::to_of(table, arc);
     let mut k = 0;
     while k < n {
-        if labels::field::end(labels, k) == v {
-            if no_greater(table, ask, area, labels, x, k) {
+        if labels::field::end(labels, k) == end {
+            if no_greater(labels, k, own) {
                 return true;
             }
         }
@@ -90,16 +68,14 @@ fn covered(table: &[u8], ask: Ask, area: &[u32], labels: &[u8], x: Trial) -> boo
     false
 }
 
-// Whether it passes both tests.
-pub fn passes(table: &[u8], ask: Ask, area: &[u32], lens: &[u64], labels: &[u8], x: Trial) -> bool
-    requires { ⌜ (Trying ask (now table) (now area) (now labels) x)
-        × (Earlier (arcsOf (now table)) (width ask) (x .r) (now area) (now lens)) ⌝ }
-    ensures { λ y. ⌜ y ≡ passes (queryFor ask (now (table .entry)) (now (labels .entry)))
-        (earlierIn (width ask) (x .r) (now (area .entry)))
-        (chainsIn (now (labels .entry)) (x .n)) (chainOf (now (labels .entry)) (x .c)) ⌝ }
+// Whether a candidate that ends there passes both tests.
+pub fn passes(ask: Ask, lens: &[u64], labels: &[u8], n: usize, end: u32, own: &[u64]) -> bool
+    requires { ⌜ (Measured ask (now lens) (now own)) × (n * labelBytes ≤ length (now labels)) ⌝ }
+    ensures { λ y. ⌜ y ≡ passesAt ask (now (lens .entry)) (now (labels .entry)) n end
+        (now (own .entry)) ⌝ }
 {
-    if !within(table, ask, area, lens, labels, x) {
+    if !within(ask, lens, own) {
         return false;
     }
-    !covered(table, ask, area, labels, x)
+    !covered(labels, n, end, own)
 }

@@ -1,15 +1,17 @@
-// The overlap of a chain with an earlier route, added up arc by arc.
+// The overlaps of a candidate with the earlier answers.
+use crate::Trial;
 use search_ask::Ask;
-use search_ask::Candidate;
 ghost use mathlib.Core.Path.{_≡_};
 ghost use mathlib.Core.List.{[], _∷_};
-ghost use Prim.Native.Nat.{_<_};
+ghost use Prim.Native.Nat.{_≤_, _<_};
+ghost use lib.ListN.{length, take};
 ghost use Rattle.lists.specs.Tests.{has};
 ghost use Rattle.net.specs.Route.{overlap};
 ghost use Rattle.table.specs.Table.{records};
-ghost use Rattle.labels.specs.Chain.{chainAt};
-ghost use Rattle.search_ask.specs.Ask.{Accepted, Searching, Among, netFor, chainOf};
-ghost use Rattle.search_ask.specs.Earlier.{routeIn};
+ghost use Rattle.labels.specs.Rows.{overlapsOf};
+ghost use Rattle.search_ask.specs.Ask.{Accepted, netFor, width, chainOf};
+ghost use Rattle.search_ask.specs.Earlier.{routeIn, earlierIn};
+ghost use Rattle.search_trial.specs.Trial.{Trying};
 
 // Whether an arc stands on the slot.
 fn stands_on(slot: &[u32], arc: u32) -> bool
@@ -37,40 +39,24 @@ fn shared(table: &[u8], ask: Ask, slot: &[u32], arc: usize) -> u64
     0
 }
 
-// The overlap of a label's chain with the route in the slot.
-pub fn of_label(table: &[u8], ask: Ask, slot: &[u32], labels: &[u8], n: usize, label: usize) -> u64
-    requires { ⌜ (Searching ask (now table) (now labels) n) × (label < n) ⌝ }
-    ensures { λ r. ⌜ r ≡ overlap (netFor ask (now (table .entry)))
-        (chainAt (now (labels .entry)) label) (routeIn (now (slot .entry))) ⌝ }
+// The overlaps of a candidate with the earlier answers in the first words of own: to each that its
+// label holds, its arc adds its share.
+pub fn of_candidate(table: &[u8], ask: Ask, area: &[u32], labels: &[u8], x: Trial, own: &mut [u64])
+    requires { ⌜ (Trying ask (now table) (now area) (now labels) x)
+        × (x .r ≤ length (now own)) ⌝ }
+    ensures { λ y. ⌜ (length (now (own .exit)) ≡ length (now (own .entry)))
+        × (take (x .r) (now (own .exit)) ≡ overlapsOf (netFor ask (now (table .entry)))
+        (earlierIn (width ask) (x .r) (now (area .entry)))
+        (chainOf (now (labels .entry)) (x .c))) ⌝ }
 {
-    let mut sum = 0u64;
-    let mut j = label;
-    while j != 0 {
-        sum += shared(
-            table,
-            ask,
-            slot,
-            labels::field::last_arc(labels, j) as usize,
-        );
-        j = labels::field::extends(labels, j) as usize;
-    }
-    sum
-}
-
-// The overlap of a candidate with it.
-pub fn of_candidate(
-    table: &[u8],
-    ask: Ask,
-    slot: &[u32],
-    labels: &[u8],
-    n: usize,
-    c: Candidate,
-) -> u64
-    requires { ⌜ (Searching ask (now table) (now labels) n) × (Among (now table) n c) ⌝ }
-    ensures { λ r. ⌜ r ≡ overlap (netFor ask (now (table .entry)))
-        (chainOf (now (labels .entry)) c) (routeIn (now (slot .entry))) ⌝ }
-{
+    let r = x.r;
+    let c = x.c;
     let label = c.label;
     let arc = c.arc;
-    of_label(table, ask, slot, labels, n, label) + shared(table, ask, slot, arc)
+    let mut j = 0;
+    while j < r {
+        let share = shared(table, ask, search_ask::slot(area, ask, j), arc);
+        own[j] = labels::field::overlap(labels, label, j) + share;
+        j += 1;
+    }
 }

@@ -65,7 +65,7 @@ stepping a =
     }
 
 same-labels : (a : tie.After-round) → length (labels-left a) ≡ length (start a .args .labels .now)
-same-labels a = ap length (rounded a .bytes) ∙ length-labelled (query a .net .arcs) (query a .s) (start a .args .labels .now) _
+same-labels a = ap length (rounded a .bytes) ∙ length-labelled (query a .net) (query a .s) _ (start a .args .labels .now) _
 
 in-row : (s : tie.Start) → s .args .x .r < 8
 in-row s = omega (arith, s .pre .2 .going (s .pre .1), s .pre .0 .few)
@@ -80,7 +80,7 @@ round-requires c κs =
     let s = c .before .before .before .before .before .before .before .before .before in
     let h = s .pre .2 .going (s .pre .1) in
     let n = lens-long (s .args .x .sums .length) (s .args .x .r) (s .pre .2 .earlier .enough) in (
-      record { accepted = s .pre .0 .accepted; earlier = earlier-lent (s .pre .2 .earlier); room = s .pre .0 .room },
+      record { accepted = s .pre .0 .accepted; earlier = earlier-lent (s .pre .2 .earlier); few = omega (arith, n, h, s .pre .0 .few); room = s .pre .0 .room },
       rw n (omega (arith, s .pre .0 .slots, mul-le-mul-right {m = suc (s .args .x .r)} {n = s .args .k} (width (s .args .ask)) h)),
     )
 

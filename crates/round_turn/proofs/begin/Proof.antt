@@ -1,27 +1,48 @@
 -- Without room for one label nothing is written, and what the round counts, at least the empty chain, exceeds the room. With room, label 0
--- is the empty chain at s: the one live partial route not after the empty chain, and it does not end at t.
+-- is the empty chain at s, whose overlaps are all 0: the one live partial route not after the empty chain, and it does not end at t.
 use native.Mathlib.Omega.{arith}
 use borrow.Author.Needs.{needs}
-use Rattle.search_ask.specs.Ask.{queryFor}
+use mathlib.Core.Path.{_≡_, sym, ap, _∙_}
+use Prim.Native.Nat.{_≤_}
+use lib.ListN.{length}
+use Rattle.labels.specs.Field.{mostEarlier, headBytes, puts}
+use Rattle.labels.proofs.StoreLaws.{emptyRow, row-put}
+use Rattle.search_ask.specs.Ask.{netFor, queryFor, width}
 use Rattle.search_ask.specs.Earlier.{earlierOf}
 use Rattle.search_ask.proofs.AskLaws.{accepted-valid}
-use Rattle.round_turn.proofs.TurnLaws.{begun-refused, begun-first}
+use Rattle.search_trial.proofs.OverlapLaws.{length-earlierIn}
+use Rattle.round_turn.proofs.TurnLaws.{begun-refused, begun-first, zeros}
 use Rattle.round_turn.proofs.begin.Statement.{statement}
 use Rattle.round_turn.proofs.begin.Tie as tie
+
+few : (s : tie.Start) → length (earlierOf (s .args .ask) (s .args .area .now) (s .args .lens .now)) ≤ mostEarlier
+few s = omega (arith, length-earlierIn (width (s .args .ask)) (length (s .args .lens .now)) (s .args .area .now), s .pre .few)
 
 returns : tie.Need-returns
 returns c =
     let s = c .before .before .before .before .before in
     let l = s .args .labels .now in
-    begun-refused (queryFor (s .args .ask) (s .args .table .now) l) (earlierOf (s .args .ask) (s .args .area .now) (s .args .lens .now)) (accepted-valid (s .pre .accepted) l) l (omega arith)
+    begun-refused (queryFor (s .args .ask) (s .args .table .now) l) (earlierOf (s .args .ask) (s .args .area .now) (s .args .lens .now)) (accepted-valid (s .pre .accepted) l) (few s) l (omega arith)
 
 returns-2 : tie.Need-returns-2
 returns-2 c =
-    let p = c .before .before in
+    let o = c .before .before in
+    let p = o .before .before .before .before .before .before in
     let s = p .before .before .before .before .before .before .before in
     let l = s .args .labels .now in
-    begun-first (queryFor (s .args .ask) (s .args .table .now) l) (earlierOf (s .args .ask) (s .args .area .now) (s .args .lens .now)) (accepted-valid (s .pre .accepted) l) l _
-    (p .put .ensures) (omega arith) (omega arith) (omega arith) (s .pre .accepted .apart)
+    let earlier = earlierOf (s .args .ask) (s .args .area .now) (s .args .lens .now) in
+    begun-first (queryFor (s .args .ask) (s .args .table .now) l) earlier (accepted-valid (s .pre .accepted) l) (few s) l _
+    (row-put l 0 (emptyRow (netFor (s .args .ask) (s .args .table .now)) (s .args .ask .s) earlier) _ _ (p .put-head .ensures) (o .put-overlaps .ensures ∙ ap (puts (p .put-head .last .0) headBytes) (zeros (netFor (s .args .ask) (s .args .table .now)) earlier (length (s .args .lens .now)) (few s) (length-earlierIn (width (s .args .ask)) (length (s .args .lens .now)) (s .args .area .now))))) (omega arith) (omega arith) (omega arith) (s .pre .accepted .apart)
 
 pub begin-spec : {M : Type 1} → statement M
-begin-spec = tie.close (tie.spec returns (λ c κs. search needs) (λ c. search needs) returns-2)
+begin-spec =
+    tie.close
+    (tie.spec
+    returns
+    (λ c κs. search needs)
+    (λ c. search needs)
+    (λ c. search needs)
+    (λ c. search needs)
+    (λ c κs. search needs)
+    (λ c. search needs)
+    returns-2)

@@ -38,7 +38,7 @@ turn-requires c κs =
     let m = c .before .before .before in
     let b = begun m in
     let s = start b in (
-      record { accepted = s .pre .accepted; earlier = s .pre .earlier; room = omega (arith, s .pre .room, m .loop .inv .long, b .begin .ensures .long) },
+      record { accepted = s .pre .accepted; earlier = s .pre .earlier; few = s .pre .few; room = omega (arith, s .pre .room, m .loop .inv .long, b .begin .ensures .long) },
       c .before .if1 .taken,
       since-going (s .args .ask) (s .args .table .now) (earlier b) _ (b .begin .result) (m .loop .labels) (m .loop .x) (m .loop .inv) (c .before .if1 .taken),
     )

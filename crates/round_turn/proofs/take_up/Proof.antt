@@ -1,4 +1,4 @@
--- What is put is the candidate's row: its length, and its last arc's end, which is its own. An arc's number fits 32 bits, and a label's 16.
+-- What is put is the candidate's row: its length, its last arc's end, which is its own, and its overlaps. An arc's number fits 32 bits, and a label's 16.
 use mathlib.Core.Path.{_≡_, sym, ap, ap₂, _∙_}
 use Prim.Native.Nat.{ℕ, _+_}
 use native.Mathlib.Omega.{arith}
@@ -9,17 +9,18 @@ use lib.Dec.{eqb}
 use Rattle.net.specs.Route.{endOf}
 use Rattle.table.specs.Table.{arcsOf}
 use Rattle.labels.specs.Chain.{chainAt}
-use Rattle.labels.specs.Field.{putRow}
+use Rattle.labels.specs.Field.{putHead, putRow}
+use Rattle.labels.proofs.StoreLaws.{row-put}
 use Rattle.search_ask.specs.Ask.{chainOf}
 use Rattle.search_ask.proofs.AskLaws.{few-records}
-use Rattle.search_trial.proofs.CoverLaws.{end-is}
+use Rattle.search_trial.proofs.OverlapLaws.{end-is}
 use Rattle.round_turn.specs.declared.State.{State}
 use Rattle.round_turn.specs.Stage.{rowFor}
 use Rattle.round_turn.proofs.take_up.Statement.{statement}
 use Rattle.round_turn.proofs.take_up.Tie as tie
 
 abbrev start : tie.After-to-of → tie.Start
-start c = c .before .before .before
+start c = c .before .before .before .before
 
 -- the candidate's end
 abbrev end : tie.Start → ℕ
@@ -28,16 +29,18 @@ end s = endOf (arcsOf (s .args .table .now)) (s .args .ask .s) (chainOf (s .args
 ends : (c : tie.After-to-of) → c .to-of .result ≡ end (start c)
 ends c = let s = start c in c .to-of .ensures ∙ end-is (s .args .table .now) (s .args .ask .s) (chainAt (s .args .labels .now) (s .args .c .label)) (s .args .c .arc) (s .pre .1 .arc-below)
 
-abbrev after : tie.After-slice-known2 → tie.After-to-of
-after c = c .before .before .before .before .before .before
+abbrev after : tie.After-slice-known3 → tie.After-to-of
+after c = c .before .before .before .before .before .before .before .before .before .before
 
-bytes : (c : tie.After-slice-known2) → c .before .before .put .last .0
-    ≡ putRow (start (after c) .args .labels .now) (start (after c) .args .n) (rowFor (arcsOf (start (after c) .args .table .now)) (start (after c) .args .ask .s) (start (after c) .args .labels .now) (start (after c) .args .c))
+bytes : (c : tie.After-slice-known3) → let s = start (after c) in
+    c .before .before .put-overlaps .last .0 ≡ putRow (s .args .labels .now) (s .args .n) (rowFor (arcsOf (s .args .table .now)) (s .args .ask .s) (s .args .labels .now) (s .args .c) (s .args .own .now))
 bytes c =
     let s = start (after c) in
-    let k = c .before .before in
-    k .put .ensures
-    ∙ ap₂ (λ l e. putRow (s .args .labels .now) (s .args .n) (record { last-arc = s .args .c .arc; extends = s .args .c .label; len = l; end = e })) (k .before .before .length-of .ensures) (ends (after c))
+    let o = c .before .before in
+    let k = o .before .before .before .before in
+    row-put (s .args .labels .now) (s .args .n) (rowFor (arcsOf (s .args .table .now)) (s .args .ask .s) (s .args .labels .now) (s .args .c) (s .args .own .now)) _ _
+    (k .put-head .ensures ∙ ap₂ (putHead (s .args .labels .now) (s .args .n) (s .args .c .arc) (s .args .c .label)) (k .before .before .length-of .ensures) (ends (after c)))
+    (o .put-overlaps .ensures)
 
 returns : tie.Need-returns
 returns c =
@@ -57,6 +60,7 @@ take-up-spec =
     (λ c κs. search needs)
     (λ c. let s = start (c .before .before .before) in omega (arith, few-records (s .pre .0 .accepted), s .pre .1 .arc-below))
     (λ c. search needs)
+    (λ c κs. search needs)
     (λ c κs. search needs)
     (λ c. search needs)
     (λ c. search needs)

@@ -1,0 +1,38 @@
+// The rounds of a case, one after the other.
+use crate::show;
+use query_rounds::Progress;
+use search_ask::Ask;
+use summary::Sums;
+ghost use Prim.Native.Nat.{_≤_};
+ghost use Rattle.query_rounds.specs.Progress.{Wanted};
+
+// The rounds of an accepted query for k routes, the labels of each shown before the next begins.
+fn rounds(name: &[u8], t: &[u8], ask: Ask, k: usize, labels: &mut [u8], area: &mut [u32])
+    requires { ⌜ (Wanted ask (now t) k (now labels) (now area)) × (1 ≤ k) ⌝ }
+{
+    let zeros = [0u64; summary::MOST_ROUTES];
+    let mut x = Progress {
+        r: 0,
+        stage: query_rounds::GOING,
+        sums: Sums {
+            length: zeros,
+            arcs: zeros,
+            labels: zeros,
+        },
+    };
+    while x.stage == query_rounds::GOING {
+        let r = x.r;
+        x = query_rounds::step(t, ask, k, labels, area, x);
+        let sums = x.sums;
+        show::round(name, r, sums, labels);
+    }
+}
+
+// The rounds of a query for k routes. One that is refused shows nothing.
+pub(crate) fn run(name: &[u8], t: &[u8], ask: Ask, k: u32, labels: &mut [u8], area: &mut [u32]) {
+    let wanted = k as usize;
+    let told = query::refused(t, ask, k, labels, area, wanted);
+    if told.outcome == outcome::FOUND {
+        rounds(name, t, ask, wanted, labels, area);
+    }
+}
