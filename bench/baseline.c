@@ -27,6 +27,7 @@ struct candidate {
 
 struct search {
     const uint8_t *table;
+    const uint8_t *closed; /* a byte for each arc, or NULL where none is closed */
     uint32_t *first;  /* the first arc of each node, and the number of arcs after the last node */
     uint32_t *newest; /* the label last made at each node, or OJEONBUT_NONE */
     uint8_t *on;      /* for each arc, bit p is set if it stands on earlier route p */
@@ -118,7 +119,7 @@ static bool beaten(const struct search *s, const struct label *l)
     return false;
 }
 
-/* l becomes a label, and with each arc that leaves its end a candidate; false where there is no room. */
+/* l becomes a label, and with each open arc that leaves its end a candidate; false where there is no room. */
 static bool take_up(struct search *s, struct label l)
 {
     if (s->count == s->room)
@@ -128,7 +129,8 @@ static bool take_up(struct search *s, struct label l)
     s->newest[l.end] = i;
     s->made[i] = l;
     for (uint32_t arc = s->first[l.end]; arc < s->first[l.end + 1]; arc++)
-        push(s, (struct candidate){l.length + word(s->table, arc, 2), i, arc});
+        if (!s->closed || !s->closed[arc])
+            push(s, (struct candidate){l.length + word(s->table, arc, 2), i, arc});
     return true;
 }
 
@@ -160,19 +162,20 @@ static uint32_t search_round(struct search *s, uint32_t start, uint32_t goal)
     return OJEONBUT_FEWER;
 }
 
-ojeonbut_reply baseline_query(const uint8_t *table, size_t table_bytes, uint32_t nodes, uint32_t start, uint32_t goal, uint32_t k, uint32_t a, uint32_t b,
-                              uint8_t *labels, size_t label_bytes, uint32_t *area, size_t area_words, ojeonbut_summary *summaries, size_t summary_count)
+ojeonbut_reply baseline_query_closed(const uint8_t *table, size_t table_bytes, uint32_t nodes, uint32_t start, uint32_t goal, uint32_t k, uint32_t a, uint32_t b,
+                                     const uint8_t *closed, size_t closed_bytes, uint8_t *labels, size_t label_bytes, uint32_t *area, size_t area_words,
+                                     ojeonbut_summary *summaries, size_t summary_count)
 {
     uint32_t arcs = table_bytes / OJEONBUT_RECORD;
     size_t width = nodes - 1;
-    struct search s = {.table = table, .made = (struct label *)labels, .room = label_bytes / OJEONBUT_LABEL, .a = a, .b = b};
+    struct search s = {.table = table, .closed = closed, .made = (struct label *)labels, .room = label_bytes / OJEONBUT_LABEL, .a = a, .b = b};
     s.first = memory(NULL, (nodes + 1 + nodes) * sizeof *s.first);
     s.newest = s.first + nodes + 1;
     s.on = memset(memory(NULL, arcs + 1), 0, arcs + 1);
     for (uint32_t node = 0, arc = 0; node <= nodes; s.first[node++] = arc)
         while (arc < arcs && word(table, arc, 0) < node)
             arc++;
-    (void)area_words, (void)summary_count;
+    (void)closed_bytes, (void)area_words, (void)summary_count;
     memset(area, 0xff, k * width * sizeof *area);
     memset(summaries, 0, k * sizeof *summaries);
     ojeonbut_reply reply = {OJEONBUT_FOUND, 0};
@@ -196,4 +199,10 @@ ojeonbut_reply baseline_query(const uint8_t *table, size_t table_bytes, uint32_t
     free(s.on);
     free(s.heap);
     return reply;
+}
+
+ojeonbut_reply baseline_query(const uint8_t *table, size_t table_bytes, uint32_t nodes, uint32_t start, uint32_t goal, uint32_t k, uint32_t a, uint32_t b,
+                              uint8_t *labels, size_t label_bytes, uint32_t *area, size_t area_words, ojeonbut_summary *summaries, size_t summary_count)
+{
+    return baseline_query_closed(table, table_bytes, nodes, start, goal, k, a, b, NULL, 0, labels, label_bytes, area, area_words, summaries, summary_count);
 }

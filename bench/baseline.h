@@ -12,4 +12,9 @@
 ojeonbut_reply baseline_query(const uint8_t *table, size_t table_bytes, uint32_t nodes, uint32_t start, uint32_t goal, uint32_t k, uint32_t a, uint32_t b,
                               uint8_t *labels, size_t label_bytes, uint32_t *area, size_t area_words, ojeonbut_summary *summaries, size_t summary_count);
 
+/* The same over the arcs whose byte is 0, as ojeonbut_query_closed. */
+ojeonbut_reply baseline_query_closed(const uint8_t *table, size_t table_bytes, uint32_t nodes, uint32_t start, uint32_t goal, uint32_t k, uint32_t a, uint32_t b,
+                                     const uint8_t *closed, size_t closed_bytes, uint8_t *labels, size_t label_bytes, uint32_t *area, size_t area_words,
+                                     ojeonbut_summary *summaries, size_t summary_count);
+
 #endif

@@ -17,7 +17,7 @@ extern "C" {
 #endif
 
 /* The version that this header declares; ojeonbut_version() gives the archive's. It goes up with every change that a caller can see: docs/CHANGES.md. */
-#define OJEONBUT_VERSION 1
+#define OJEONBUT_VERSION 2
 
 /* A road table: arc records of 16 bytes, little-endian: start node, end node, length, four zero bytes; 4 bytes each. Records stand in order of start node.
  * An arc's number is its record's, from 0; a node's is below the node count. */
@@ -44,7 +44,8 @@ enum ojeonbut_outcome {
     OJEONBUT_THRESHOLD = 9, /* b outside 1 to 1,000, or a not below b */
     OJEONBUT_BUFFERS = 10,  /* area under k * (nodes - 1) words, fewer than k summaries, or over 65,535 whole labels */
     OJEONBUT_ROOM = 11,     /* a round needs more labels than were lent; number: the round, from 1 */
-    OJEONBUT_SIZE = 13      /* node count outside 1 to 4,096, table bytes not a multiple of 16, or over 16,384 records */
+    OJEONBUT_SIZE = 13,     /* node count outside 1 to 4,096, table bytes not a multiple of 16, or over 16,384 records */
+    OJEONBUT_CLOSURES = 15  /* closure bytes of another number than the arcs, or one that is neither 0 nor 1 */
 };
 
 typedef struct ojeonbut_reply {
@@ -84,6 +85,17 @@ ojeonbut_part ojeonbut_arcs_from(const uint8_t *table, size_t table_bytes, uint3
  *              the room; rounds not begun have three zeros. Summaries after the k-th are untouched. */
 ojeonbut_reply ojeonbut_query(const uint8_t *table, size_t table_bytes, uint32_t nodes, uint32_t start, uint32_t goal, uint32_t k, uint32_t a, uint32_t b,
                               uint8_t *labels, size_t label_bytes, uint32_t *area, size_t area_words, ojeonbut_summary *summaries, size_t summary_count);
+
+/* The same query while roads are closed: `closed` has one byte for each arc, 0 open and 1 closed. Routes have open arcs only; arc numbers do not change, and the part
+ * that ojeonbut_arcs_from hands out for a node stays its whole run. With all bytes 0 it does exactly what ojeonbut_query does.
+ * Checks come in the order 13, the records (2 to 6), 15, 7, 8, 9, 10; 15 too changes nothing. */
+ojeonbut_reply ojeonbut_query_closed(const uint8_t *table, size_t table_bytes, uint32_t nodes, uint32_t start, uint32_t goal, uint32_t k, uint32_t a, uint32_t b,
+                                     const uint8_t *closed, size_t closed_bytes, uint8_t *labels, size_t label_bytes, uint32_t *area, size_t area_words,
+                                     ojeonbut_summary *summaries, size_t summary_count);
+
+/* The step along a node's run that the query takes: the first arc from `place` on that is open, or `end` where there is none before it. Past the bytes an arc is open;
+ * where `place` is not below `end` it is `end`. Writes nothing. */
+size_t ojeonbut_next_arc(const uint8_t *closed, size_t closed_bytes, size_t place, size_t end);
 
 #ifdef __cplusplus
 }

@@ -1,4 +1,4 @@
-/* The archive's version, and its three other calls on drawn small tables and queries, right and spoilt, in buffers that lie in junk. Each outcome, and every byte that is to be zero, filled or
+/* The archive's version, and its other calls on drawn small tables, queries and closures, right and spoilt, in buffers that lie in junk. Each outcome, and every byte that is to be zero, filled or
  * untouched, is held against the baseline's answer and against the refusals written out here. Prints how many calls there were and how often each outcome occurred; exits 1
  * where one differs, and prints the first that does. */
 #include "baseline.h"
@@ -11,7 +11,8 @@ enum { CASES = 20000, NODES = 8, ARCS = 16, ROOM = 40, AROUND = 3, JUNK = 0xa5 }
 
 struct query {
     uint8_t table[(ARCS + 1) * OJEONBUT_RECORD];
-    size_t table_bytes, label_bytes, area_words, summary_count;
+    uint8_t closed[ARCS + 2];
+    size_t table_bytes, closed_bytes, label_bytes, area_words, summary_count;
     uint32_t nodes, start, goal, k, a, b;
 };
 
@@ -56,6 +57,10 @@ static struct query draw_query(void)
         put(record + 8, 1 + draw(4));
     }
     q.table_bytes = arcs * OJEONBUT_RECORD;
+    q.closed_bytes = arcs;
+    uint32_t manner = draw(8), node = draw(q.nodes); /* of closing: none, all arcs of one node, or one in so many */
+    for (uint32_t i = 0; manner && i < arcs; i++)
+        q.closed[i] = manner == 1 ? word(q.table + i * OJEONBUT_RECORD) == node : draw(manner) == 0;
     q.label_bytes = draw(ROOM + 1) * OJEONBUT_LABEL + draw(OJEONBUT_LABEL);
     q.area_words = q.k * (q.nodes - 1) + draw(4);
     q.summary_count = q.k + draw(3);
@@ -66,7 +71,7 @@ static struct query draw_query(void)
 static void spoil(struct query *q)
 {
     uint8_t *record = q->table + draw(ARCS) * OJEONBUT_RECORD;
-    switch (draw(20)) {
+    switch (draw(22)) {
     case 0: put(record + 4 * draw(2), draw(2) ? q->nodes : 0xffffffff); break;
     case 1: put(record + 4, word(record)); break;
     case 2: put(record + 8, draw(2) ? 0 : OJEONBUT_LENGTH + 1); break;
@@ -81,6 +86,8 @@ static void spoil(struct query *q)
     case 11: q->summary_count = q->k - 1; break;
     case 12: q->nodes = draw(2) ? 0 : OJEONBUT_NODES + 1; break;
     case 13: q->table_bytes += 1 + draw(15); break;
+    case 14: q->closed_bytes = draw(2) ? q->closed_bytes + 1 : q->closed_bytes ? draw((uint32_t)q->closed_bytes) : 1; break;
+    case 15: q->closed[draw(ARCS)] = (uint8_t)(2 + draw(254)); break;
     default: break;
     }
 }
@@ -106,12 +113,23 @@ static ojeonbut_reply table_fault(const struct query *q)
     return (ojeonbut_reply){OJEONBUT_FOUND, 0};
 }
 
-/* The refusal due to a query, or outcome 0. */
-static ojeonbut_reply refusal(const struct query *q)
+/* Another number of closure bytes than of arcs, or another value than 0 and 1. */
+static bool wrong_closures(const struct query *q)
+{
+    for (size_t i = 0; i < q->closed_bytes; i++)
+        if (q->closed[i] > 1)
+            return true;
+    return q->closed_bytes != q->table_bytes / OJEONBUT_RECORD;
+}
+
+/* The refusal due to a query, with closures or without, or outcome 0. */
+static ojeonbut_reply refusal(const struct query *q, bool closing)
 {
     ojeonbut_reply r = table_fault(q);
     if (r.outcome)
         return r;
+    if (closing && wrong_closures(q))
+        return (ojeonbut_reply){OJEONBUT_CLOSURES, 0};
     if (q->start >= q->nodes || q->goal >= q->nodes || q->start == q->goal)
         r.outcome = OJEONBUT_ENDS;
     else if (q->k < 1 || q->k > OJEONBUT_ROUTES)
@@ -125,6 +143,8 @@ static ojeonbut_reply refusal(const struct query *q)
 
 typedef ojeonbut_reply query_call(const uint8_t *, size_t, uint32_t, uint32_t, uint32_t, uint32_t, uint32_t, uint32_t, uint8_t *, size_t, uint32_t *, size_t,
                                   ojeonbut_summary *, size_t);
+typedef ojeonbut_reply closed_call(const uint8_t *, size_t, uint32_t, uint32_t, uint32_t, uint32_t, uint32_t, uint32_t, const uint8_t *, size_t, uint8_t *, size_t,
+                                   uint32_t *, size_t, ojeonbut_summary *, size_t);
 
 static ojeonbut_reply ask(query_call *call, const struct query *q, struct lent *m)
 {
@@ -132,19 +152,40 @@ static ojeonbut_reply ask(query_call *call, const struct query *q, struct lent *
                 q->area_words, m->summaries + AROUND, q->summary_count);
 }
 
-static bool query_as_due(const struct query *q, ojeonbut_reply *got)
+static ojeonbut_reply ask_closed(closed_call *call, const struct query *q, struct lent *m)
+{
+    return call(q->table, q->table_bytes, q->nodes, q->start, q->goal, q->k, q->a, q->b, q->closed, q->closed_bytes, m->labels + AROUND * OJEONBUT_LABEL, q->label_bytes,
+                m->area + AROUND, q->area_words, m->summaries + AROUND, q->summary_count);
+}
+
+/* The call with closures or the one without. */
+static bool query_as_due(const struct query *q, bool closing, ojeonbut_reply *got)
 {
     static struct lent due, found;
     memset(&due, JUNK, sizeof due);
     memset(&found, JUNK, sizeof found);
-    ojeonbut_reply r = refusal(q);
+    ojeonbut_reply r = refusal(q, closing);
     if (!r.outcome) {
-        r = ask(baseline_query, q, &due);
+        r = closing ? ask_closed(baseline_query_closed, q, &due) : ask(baseline_query, q, &due);
         memset(due.labels, JUNK, sizeof due.labels);
         memset(due.labels + AROUND * OJEONBUT_LABEL, 0, q->label_bytes);
     }
-    *got = ask(ojeonbut_query, q, &found);
+    *got = closing ? ask_closed(ojeonbut_query_closed, q, &found) : ask(ojeonbut_query, q, &found);
     return got->outcome == r.outcome && got->number == r.number && memcmp(&due, &found, sizeof due) == 0;
+}
+
+/* From every place to every end, past the bytes too: the first that is open, or the end. */
+static bool steps_as_due(const struct query *q)
+{
+    for (size_t end = 0; end < ARCS + 4; end++)
+        for (size_t place = 0; place < ARCS + 4; place++) {
+            size_t due = place < end ? place : end;
+            while (due < end && due < q->closed_bytes && q->closed[due])
+                due++;
+            if (ojeonbut_next_arc(q->closed, q->closed_bytes, place, end) != due)
+                return false;
+        }
+    return true;
 }
 
 /* The fault of the table, and the part of each node: exactly the records that start there. */
@@ -170,11 +211,11 @@ static bool table_as_due(const struct query *q)
 
 static void print_query(const struct query *q, ojeonbut_reply r)
 {
-    printf("the first difference: %u nodes, start %u, goal %u, k %u, threshold %u/%u, %zu label bytes, %zu words, %zu summaries, %zu table bytes; got %u %u\n", q->nodes,
-           q->start, q->goal, q->k, q->a, q->b, q->label_bytes, q->area_words, q->summary_count, q->table_bytes, r.outcome, r.number);
+    printf("the first difference, of the call with closures or of another: %u nodes, start %u, goal %u, k %u, threshold %u/%u, %zu label bytes, %zu words, %zu summaries, %zu table bytes, %zu closure bytes; got %u %u\n", q->nodes,
+           q->start, q->goal, q->k, q->a, q->b, q->label_bytes, q->area_words, q->summary_count, q->table_bytes, q->closed_bytes, r.outcome, r.number);
     for (size_t i = 0; i < q->table_bytes / OJEONBUT_RECORD; i++)
-        printf("  arc %zu: %u %u %u %u\n", i, word(q->table + i * OJEONBUT_RECORD), word(q->table + i * OJEONBUT_RECORD + 4), word(q->table + i * OJEONBUT_RECORD + 8),
-               word(q->table + i * OJEONBUT_RECORD + 12));
+        printf("  arc %zu: %u %u %u %u, closure %u\n", i, word(q->table + i * OJEONBUT_RECORD), word(q->table + i * OJEONBUT_RECORD + 4), word(q->table + i * OJEONBUT_RECORD + 8),
+               word(q->table + i * OJEONBUT_RECORD + 12), q->closed[i]);
 }
 
 /* One label more than may be lent is 10, and as many are not. */
@@ -191,20 +232,22 @@ static bool limit_as_due(void)
 
 int main(void)
 {
-    uint32_t as_due = 0, outcomes[OJEONBUT_SIZE + 1] = {0};
+    uint32_t as_due = 0, outcomes[OJEONBUT_CLOSURES + 1] = {0};
     for (uint32_t i = 0; i < CASES; i++) {
         struct query q = draw_query();
-        ojeonbut_reply r;
+        ojeonbut_reply r, c;
         spoil(&q);
-        if (query_as_due(&q, &r) && table_as_due(&q))
+        bool plain = query_as_due(&q, false, &r), closing = query_as_due(&q, true, &c);
+        if (plain && closing && table_as_due(&q) && steps_as_due(&q))
             as_due++;
         else if (as_due == i)
-            print_query(&q, r);
-        outcomes[r.outcome <= OJEONBUT_SIZE ? r.outcome : 12]++;
+            print_query(&q, plain ? c : r);
+        outcomes[r.outcome <= OJEONBUT_CLOSURES ? r.outcome : 12]++;
+        outcomes[c.outcome <= OJEONBUT_CLOSURES ? c.outcome : 12]++;
     }
     bool limit = limit_as_due(), version = ojeonbut_version() == OJEONBUT_VERSION;
-    printf("version %s; drawn calls %d, as due %u; the limit of labels %s\noutcomes:", version ? "as due" : "NOT as due", CASES, as_due, limit ? "as due" : "NOT as due");
-    for (int i = 0; i <= OJEONBUT_SIZE; i++)
-        printf(" %d in %u%s", i, outcomes[i], i < OJEONBUT_SIZE ? "," : "\n");
+    printf("version %s; drawn cases %d, as due %u; the limit of labels %s\noutcomes:", version ? "as due" : "NOT as due", CASES, as_due, limit ? "as due" : "NOT as due");
+    for (int i = 0; i <= OJEONBUT_CLOSURES; i++)
+        printf(" %d in %u%s", i, outcomes[i], i < OJEONBUT_CLOSURES ? "," : "\n");
     return version && as_due == CASES && limit ? 0 : 1;
 }

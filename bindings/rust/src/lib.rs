@@ -2,7 +2,7 @@
 //! What that header asks of a caller, Rust's slices ensure: they are valid for their lengths, and a `&mut` one overlaps no other.
 
 /// The version of include/ojeonbut.h that these calls are for. Each call asks once that the archive linked is of it, and panics where it is not.
-pub const VERSION: u32 = 1;
+pub const VERSION: u32 = 2;
 
 /// The outcomes, by number. What the number beside each says is in include/ojeonbut.h.
 pub mod outcome {
@@ -32,6 +32,8 @@ pub mod outcome {
     pub const ROOM: u32 = 11;
     /// Node count, table bytes or number of records outside their limits.
     pub const SIZE: u32 = 13;
+    /// Closure bytes of another number than the arcs, or one that is neither 0 nor 1.
+    pub const CLOSURES: u32 = 15;
 }
 
 /// The outcome's number, and the number beside it.
@@ -80,6 +82,25 @@ mod raw {
             summaries: *mut Summary,
             summary_count: usize,
         ) -> Reply;
+        pub fn ojeonbut_query_closed(
+            table: *const u8,
+            table_bytes: usize,
+            nodes: u32,
+            start: u32,
+            goal: u32,
+            k: u32,
+            a: u32,
+            b: u32,
+            closed: *const u8,
+            closed_bytes: usize,
+            labels: *mut u8,
+            label_bytes: usize,
+            area: *mut u32,
+            area_words: usize,
+            summaries: *mut Summary,
+            summary_count: usize,
+        ) -> Reply;
+        pub fn ojeonbut_next_arc(closed: *const u8, closed_bytes: usize, place: usize, end: usize) -> usize;
     }
 }
 
@@ -142,4 +163,49 @@ pub fn query(
             summaries.len(),
         )
     }
+}
+
+/// The query while roads are closed: `closed` has a byte for each arc, 0 open and 1 closed.
+#[allow(clippy::too_many_arguments)]
+pub fn query_closed(
+    table: &[u8],
+    nodes: u32,
+    start: u32,
+    goal: u32,
+    k: u32,
+    threshold: (u32, u32),
+    closed: &[u8],
+    labels: &mut [u8],
+    area: &mut [u32],
+    summaries: &mut [Summary],
+) -> Reply {
+    ask_version();
+    // SAFETY: each slice is valid for its length; the three that are written are borrowed mutably, so they overlap nothing.
+    unsafe {
+        raw::ojeonbut_query_closed(
+            table.as_ptr(),
+            table.len(),
+            nodes,
+            start,
+            goal,
+            k,
+            threshold.0,
+            threshold.1,
+            closed.as_ptr(),
+            closed.len(),
+            labels.as_mut_ptr(),
+            labels.len(),
+            area.as_mut_ptr(),
+            area.len(),
+            summaries.as_mut_ptr(),
+            summaries.len(),
+        )
+    }
+}
+
+/// The first arc from `place` on that is open, or `end`: the step along a node's run that the query takes.
+pub fn next_arc(closed: &[u8], place: usize, end: usize) -> usize {
+    ask_version();
+    // SAFETY: as for `check`.
+    unsafe { raw::ojeonbut_next_arc(closed.as_ptr(), closed.len(), place, end) }
 }

@@ -1,5 +1,5 @@
 //! The scope's example through the safe calls.
-use ojeonbut::{arcs_from, check, outcome, query, version, Reply, Summary, VERSION};
+use ojeonbut::{arcs_from, check, next_arc, outcome, query, query_closed, version, Reply, Summary, VERSION};
 
 const NONE: u32 = u32::MAX;
 
@@ -31,6 +31,23 @@ fn refusals_write_nothing() {
     let r = query(&table, 4, 0, 3, 4, (1, 1), &mut labels, &mut area, &mut summaries);
     assert_eq!(r, Reply { outcome: outcome::THRESHOLD, number: 0 });
     assert!(labels.iter().all(|&b| b == 85) && area.iter().all(|&w| w == 7) && summaries.iter().all(|s| s.length == 7));
+}
+
+#[test]
+fn closed_roads() {
+    let table = table();
+    let mut labels = vec![85u8; 512 * 96];
+    let mut area = [7u32; 6];
+    let mut summaries = [Summary { length: 7, arcs: 7, labels: 7 }; 2];
+    let wrong = query_closed(&table, 4, 0, 3, 2, (1, 2), &[0; 4], &mut labels, &mut area, &mut summaries);
+    assert_eq!(wrong, Reply { outcome: outcome::CLOSURES, number: 0 });
+    assert!(labels.iter().all(|&b| b == 85) && area == [7; 6] && summaries.iter().all(|s| s.length == 7));
+    let r = query_closed(&table, 4, 0, 3, 2, (1, 2), &[1, 0, 0, 0, 0], &mut labels, &mut area, &mut summaries);
+    assert_eq!(r, Reply { outcome: outcome::FEWER, number: 0 });
+    assert_eq!(area, [1, 4, NONE, NONE, NONE, NONE]);
+    let rows: Vec<_> = summaries.iter().map(|s| (s.length, s.arcs, s.labels)).collect();
+    assert_eq!(rows, [(5, 2, 3), (0, 0, 1)]);
+    assert_eq!((next_arc(&[1, 0, 1], 0, 3), next_arc(&[1, 0, 1], 2, 3), next_arc(&[], 2, 3), next_arc(&[], 4, 3)), (1, 3, 2, 3));
 }
 
 #[test]

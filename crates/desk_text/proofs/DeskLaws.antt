@@ -85,7 +85,7 @@ sums-small q w n (refused ∷ rs) h (suc j) = sums-small q w n rs h j
 
 module _ (i : Input) (g : Got) (labels′ area : List ℕ) (c : Cored i g labels′ area) (on : reaches i ≡ true) where
   valid : Valid (queryOf i)
-  valid = accepted-valid (reached-passed i on .ask) (i .labels)
+  valid = accepted-valid (reached-passed i on .ask) (i .closed) (i .labels)
 
   few : length (queryOf i .net .arcs) < noNumber
   few = few-arcs (reached-passed i on .ask)

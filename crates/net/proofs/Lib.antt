@@ -16,3 +16,4 @@ pub mod Ends
 pub mod Turns
 pub mod Labels
 pub mod Bound
+pub mod Unused

@@ -4,11 +4,12 @@ ghost use mathlib.Core.Path.{_≡_};
 ghost use Prim.Native.Nat.{_<_};
 ghost use lib.ListN.{length};
 ghost use Rattle.table.specs.Fault.{tableFault, good};
-ghost use Rattle.query.specs.Query.{input, Replied};
+ghost use Rattle.closures.specs.Closed.{nextOpen};
+ghost use Rattle.query.specs.Query.{input, inputClosed, Replied};
 ghost use Rattle.ojeonbut.specs.Exported.{version, runPart, partOf};
 
 // OJEONBUT_VERSION of include/ojeonbut.h.
-const VERSION: u32 = 1;
+const VERSION: u32 = 2;
 
 // A part of a table: the place of its first byte, and its number of bytes.
 #[repr(C)]
@@ -87,4 +88,41 @@ pub extern "C" fn ojeonbut_query(
     let n = g.n;
     summary::write(sums, x, n);
     g.told
+}
+
+// The query over the arcs that are not closed: `closed` has a byte for each arc, 0 open and 1
+// closed.
+#[no_mangle]
+pub extern "C" fn ojeonbut_query_closed(
+    table: &[u8],
+    nodes: u32,
+    s: u32,
+    goal: u32,
+    k: u32,
+    a: u32,
+    b: u32,
+    closed: &[u8],
+    labels: &mut [u8],
+    area: &mut [u32],
+    sums: &mut [summary::Summary],
+) -> Told
+    ensures { λ r. ⌜ Replied (inputClosed (now (table .entry)) nodes s goal k a b
+        (now (closed .entry)) (now (labels .entry)) (now (area .entry))
+        (length (now (sums .entry)))) r
+        (now (labels .exit)) (now (area .exit)) (now (sums .entry)) (now (sums .exit)) ⌝ }
+{
+    let lent = sums.len();
+    let g = query::core_closed(table, nodes, s, goal, k, a, b, closed, labels, area, lent);
+    let x = g.sums;
+    let n = g.n;
+    summary::write(sums, x, n);
+    g.told
+}
+
+// The next open arc from `place` on, or `end`.
+#[no_mangle]
+pub extern "C" fn ojeonbut_next_arc(closed: &[u8], place: usize, end: usize) -> usize
+    ensures { λ r. ⌜ r ≡ nextOpen (now (closed .entry)) place end ⌝ }
+{
+    closures::next_arc(closed, place, end)
 }

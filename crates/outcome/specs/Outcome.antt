@@ -58,6 +58,10 @@ text = 12
 abbrev pub size : ℕ
 size = 13
 
+-- "closure bytes of another number than the arcs or with another value" (02.3)
+abbrev pub closures : ℕ
+closures = 15
+
 -- "Where no number is named, 0 is returned beside the outcome."
 abbrev pub plain : ℕ → Told
 plain n = record { outcome = n; number = 0 }

@@ -50,6 +50,8 @@ abbrev pub asking : List Arc → ℕ → ℕ → ℕ → ℕ → ℕ → ℕ →
 asking arcs nodes s goal k a b room =
     record {
       table = tableOf arcs;
+      closed = [];
+      closing = false;
       ask = record { nodes = nodes; s = s; goal = goal; a = a; b = b };
       k = k;
       labels = zeros (room * labelBytes);
@@ -130,7 +132,7 @@ module _ (f : Figure) (m : List·Memᴰ f figures) where
   pub case-told : (x : Told) (labels′ area′ : List ℕ) (sums₀ sums′ : List Summary) → Replied (asksFor f) x labels′ area′ sums₀ sums′ → x ≡ f .due .told
   case-told x labels′ area′ sums₀ sums′ r =
       r .told
-      ∙ figure-told (asksFor f) (fit .0) (asking-large (f .asked .net .arcs) (f .asked .net .nodes) (f .asked .s) (f .asked .t) (f .k) (f .asked .a) (f .asked .b) (f .asked .room) (fit .3)) f m is-asked refl
+      ∙ figure-told (asksFor f) (fit .0) refl (asking-large (f .asked .net .arcs) (f .asked .net .nodes) (f .asked .s) (f .asked .t) (f .k) (f .asked .a) (f .asked .b) (f .asked .room) (fit .3)) f m is-asked refl
 
   pub case-made : (x : Told) (labels′ area′ : List ℕ) (sums₀ sums′ : List Summary) → Replied (asksFor f) x labels′ area′ sums₀ sums′ → reaches (asksFor f) ≡ true
       → (area′ ≡ areaWith (f .asked .net .nodes - 1) (f .k) (asksFor f .area) (f .due .routes)) × (sums′ ≡ map asRecord (f .due .summaries) ++ drop (f .k) sums₀)

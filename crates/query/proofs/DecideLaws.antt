@@ -3,7 +3,7 @@
 -- give all that is due.
 use mathlib.Core.Path.{_≡_, refl, sym, ap, subst, _∙_}
 use mathlib.Core.Bool.{Bool, true, false, not, _&&_, _||_, cond}
-use mathlib.Core.List.{List, _++_, map}
+use mathlib.Core.List.{List, [], _++_, map}
 use mathlib.Core.Logic.{_⊎_, inl, inr, ⊎-elim}
 use Prim.Native.Nat.{ℕ, suc, _*_, _-_, _≤_}
 use native.Mathlib.Nat.{mul-le-mul}
@@ -15,17 +15,19 @@ use Rattle.lists.proofs.Cases.{cases, order}
 use Rattle.lists.proofs.TestLaws.{and-l, and-r, or-l, or-r, eq→eqb}
 use Rattle.net.specs.Limits.{mostNodes, mostRoutes, mostB, mostLabels}
 use Rattle.outcome.specs.declared.Told.{Told}
-use Rattle.outcome.specs.Outcome.{buffers, plain}
+use Rattle.outcome.specs.Outcome.{buffers, closures, plain}
 use Rattle.net.specs.Outcome.{told, answers, summaries, refusal}
 use Rattle.table.specs.Fault.{tableFault, good}
 use Rattle.table.proofs.FaultLaws.{told-good}
-use Rattle.search_ask.specs.Ask.{Accepted, roomIn}
+use Rattle.search_ask.specs.declared.Ask.{Ask}
+use Rattle.search_ask.specs.Ask.{Accepted, queryFor, roomIn}
 use Rattle.summary.specs.Sums.{written}
 use Rattle.query_rounds.specs.Area.{areaWith}
 use Rattle.query_rounds.specs.Progress.{Wanted, asRecord}
 use Rattle.query_rounds.specs.Finished.{Finished}
 use Rattle.query_rounds.specs.declared.Got.{Got}
-use Rattle.query.specs.Query.{Input, queryOf, width, tooSmall, refusedOf, reaches, roundsOf, tellsDue, labelsDue, areaDue, sumsDue, Cored}
+use Rattle.query.specs.Query.{Input, queryOf, width, wrongClosures, tooSmall, refusedOf, reaches, roundsOf, tellsDue, labelsDue, areaDue, sumsDue, asked, Cored}
+use Rattle.query.specs.declared.Wish.{Wish}
 
 -- ---- 7, 8 and 9
 
@@ -66,6 +68,11 @@ passed i ok e =
       k-most = leb→le _ _ (and-r (leb 1 (i .k)) (leb (i .k) mostRoutes) (p8 .0));
     }
 
+-- neither the table's arcs nor the closures have a part in them
+pub refusal-is : (i : Input) → refusal (queryOf i) (i .k) ≡ refusal (queryFor (i .ask) [] [] []) (i .k)
+unfolding refusal
+refusal-is i = refl
+
 -- ---- 10
 
 -- the words of k slots are few
@@ -103,32 +110,43 @@ module _ (i : Input) where
   refused-table ne = rw (ne-eqb _ 0 ne)
 
   module _ (ok : tableFault (i .ask .nodes) (i .table) ≡ good) where
-    pub refused-number : (n : ℕ) → refusal (queryOf i) (i .k) ≡ n → eqb n 0 ≡ false → refusedOf i ≡ plain n
+    pub refused-closures : wrongClosures i ≡ true → refusedOf i ≡ plain closures
     unfolding refusedOf
-    refused-number n e some = rw (ok, e, some)
+    refused-closures e = rw (ok, e)
 
-    pub refused-room : refusal (queryOf i) (i .k) ≡ 0 → (b : Bool) → tooSmall i ≡ b → refusedOf i ≡ cond b (plain buffers) good
-    unfolding refusedOf
-    refused-room e b s = rw (ok, e, s)
+    module _ (right : wrongClosures i ≡ false) where
+      pub refused-number : (n : ℕ) → refusal (queryOf i) (i .k) ≡ n → eqb n 0 ≡ false → refusedOf i ≡ plain n
+      unfolding refusedOf
+      refused-number n e some = rw (ok, right, e, some)
+
+      pub refused-room : refusal (queryOf i) (i .k) ≡ 0 → (b : Bool) → tooSmall i ≡ b → refusedOf i ≡ cond b (plain buffers) good
+      unfolding refusedOf
+      refused-room e b s = rw (ok, right, e, s)
 
 -- an outcome 0 passes every test
-pub refused-none : (i : Input) → refusedOf i .outcome ≡ 0 → (tableFault (i .ask .nodes) (i .table) ≡ good) × (refusal (queryOf i) (i .k) ≡ 0) × (tooSmall i ≡ false)
+pub refused-none : (i : Input) → refusedOf i .outcome ≡ 0
+    → (tableFault (i .ask .nodes) (i .table) ≡ good) × (refusal (queryOf i) (i .k) ≡ 0) × (tooSmall i ≡ false) × (wrongClosures i ≡ false)
 unfolding refusedOf
-refused-none i zero-is = go (cases (eqb (tableFault (i .ask .nodes) (i .table) .outcome) 0)) (cases (eqb (refusal (queryOf i) (i .k)) 0)) (cases (tooSmall i))
+refused-none i zero-is = go (cases (eqb (tableFault (i .ask .nodes) (i .table) .outcome) 0)) (cases (wrongClosures i)) (cases (eqb (refusal (queryOf i) (i .k)) 0)) (cases (tooSmall i))
   where
-    ten : eqb (tableFault (i .ask .nodes) (i .table) .outcome) 0 ≡ true → eqb (refusal (queryOf i) (i .k)) 0 ≡ true → tooSmall i ≡ true → ⊥
-    ten a b c = let z : _≡_ {A = ℕ} buffers 0 = rw (a, b, c) at zero-is in omega arith
+    ten : eqb (tableFault (i .ask .nodes) (i .table) .outcome) 0 ≡ true → wrongClosures i ≡ false → eqb (refusal (queryOf i) (i .k)) 0 ≡ true → tooSmall i ≡ true → ⊥
+    ten a d b c = let z : _≡_ {A = ℕ} buffers 0 = rw (a, d, b, c) at zero-is in omega arith
 
-    number : eqb (tableFault (i .ask .nodes) (i .table) .outcome) 0 ≡ true → eqb (refusal (queryOf i) (i .k)) 0 ≡ false → ⊥
-    number a b = eqb-false _ _ b (rw (a, b) at zero-is)
+    number : eqb (tableFault (i .ask .nodes) (i .table) .outcome) 0 ≡ true → wrongClosures i ≡ false → eqb (refusal (queryOf i) (i .k)) 0 ≡ false → ⊥
+    number a d b = eqb-false _ _ b (rw (a, d, b) at zero-is)
+
+    fifteen : eqb (tableFault (i .ask .nodes) (i .table) .outcome) 0 ≡ true → wrongClosures i ≡ true → ⊥
+    fifteen a d = let z : _≡_ {A = ℕ} closures 0 = rw (a, d) at zero-is in omega arith
 
     go : (eqb (tableFault (i .ask .nodes) (i .table) .outcome) 0 ≡ true) ⊎ (eqb (tableFault (i .ask .nodes) (i .table) .outcome) 0 ≡ false)
+        → (wrongClosures i ≡ true) ⊎ (wrongClosures i ≡ false)
         → (eqb (refusal (queryOf i) (i .k)) 0 ≡ true) ⊎ (eqb (refusal (queryOf i) (i .k)) 0 ≡ false) → (tooSmall i ≡ true) ⊎ (tooSmall i ≡ false)
-        → (tableFault (i .ask .nodes) (i .table) ≡ good) × (refusal (queryOf i) (i .k) ≡ 0) × (tooSmall i ≡ false)
-    go (inl a) (inl b) (inr c) = (told-good (i .ask .nodes) (i .table) (eqb-true _ _ a), eqb-true _ _ b, c)
-    go (inl a) (inl b) (inl c) = absurd (ten a b c)
-    go (inl a) (inr b) c = absurd (number a b)
-    go (inr a) b c = absurd (eqb-false _ _ a (rw a at zero-is))
+        → (tableFault (i .ask .nodes) (i .table) ≡ good) × (refusal (queryOf i) (i .k) ≡ 0) × (tooSmall i ≡ false) × (wrongClosures i ≡ false)
+    go (inl a) (inr d) (inl b) (inr c) = (told-good (i .ask .nodes) (i .table) (eqb-true _ _ a), eqb-true _ _ b, c, d)
+    go (inl a) (inr d) (inl b) (inl c) = absurd (ten a d b c)
+    go (inl a) (inr d) (inr b) c = absurd (number a d b)
+    go (inl a) (inl d) b c = absurd (fifteen a d)
+    go (inr a) d b c = absurd (eqb-false _ _ a (rw a at zero-is))
 
 -- what the rounds ask, where nothing refuses
 pub record Reached (i : Input) : Type 0 where
@@ -139,7 +157,7 @@ pub record Reached (i : Input) : Type 0 where
 pub reached : (i : Input) → refusedOf i .outcome ≡ 0 → Reached i
 reached i e =
     let w = refused-none i e in
-    record { none = refused-room i (w .0) (w .1) false (w .2); passed = passed i (w .0) (w .1); large = large i (w .2) }
+    record { none = refused-room i (w .0) (w .3) (w .1) false (w .2); passed = passed i (w .0) (w .1); large = large i (w .2) }
 
 pub wanted : (i : Input) → Reached i → Wanted (i .ask) (i .table) (i .k) (i .labels) (i .area)
 wanted i r = record { accepted = r .passed .ask; room = r .large .room; few = r .passed .k-most; slots = r .large .words }
@@ -177,3 +195,8 @@ cored-reached i g labels′ area′ r f =
       sums = λ before. ap (λ n. written (g .sums) n before) (f .all) ∙ ap (λ ys. ys ++ drop (i .k) before) (f .sums)
           ∙ sym (ap (λ b. cond b (map asRecord (summaries (queryOf i) (i .k) (roundsOf i)) ++ drop (i .k) before) before) on);
     }
+
+-- the same ask
+pub cored-same : (table closed : List ℕ) (wish : Wish) (labels area : List ℕ) (x y : Ask) (g : Got) (labels′ area′ : List ℕ) → x ≡ y
+    → Cored (asked table closed x wish labels area) g labels′ area′ → Cored (asked table closed y wish labels area) g labels′ area′
+cored-same table closed wish labels area x y g labels′ area′ e c = subst (λ z. Cored (asked table closed z wish labels area) g labels′ area′) e c

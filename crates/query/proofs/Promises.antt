@@ -22,7 +22,7 @@ use Rattle.net.proofs.Valid.{Valid}
 use Rattle.net.proofs.Bound.{count-bound}
 use Rattle.net.proofs.Figures.{figures-hold}
 use Rattle.table.specs.Fault.{tableFault, good}
-use Rattle.query.specs.Query.{Input, queryOf, tooSmall, reaches, roundsOf, tellsDue, refusedOf}
+use Rattle.query.specs.Query.{Input, queryOf, wrongClosures, tooSmall, reaches, roundsOf, tellsDue, refusedOf}
 use Rattle.query.specs.Promises.{before, Demand2, Demand3}
 
 -- ---- round j is the round after the answers before it
@@ -185,7 +185,7 @@ demand-3 i v b =
 
 -- ---- what reaches the rounds has passed the refusals
 
-pub reached : (i : Input) → reaches i ≡ true → (tableFault (i .ask .nodes) (i .table) ≡ good) × (refusal (queryOf i) (i .k) ≡ 0) × (tooSmall i ≡ false)
+pub reached : (i : Input) → reaches i ≡ true → (tableFault (i .ask .nodes) (i .table) ≡ good) × (refusal (queryOf i) (i .k) ≡ 0) × (tooSmall i ≡ false) × (wrongClosures i ≡ false)
 unfolding reaches
 reached i h = refused-none i (eqb-true (refusedOf i .outcome) 0 h)
 
@@ -194,11 +194,11 @@ pub demand-3-reached : (i : Input) → reaches i ≡ true → Demand3 i
 demand-3-reached i h =
     let w = reached i h in
     let p = passed i (w .0) (w .1) in
-    demand-3 i (accepted-valid (p .ask) (i .labels)) (p .ask .b-least)
+    demand-3 i (accepted-valid (p .ask) (i .closed) (i .labels)) (p .ask .b-least)
 
 -- ---- the proved cases hold of the call
 
-module _ (i : Input) (ok : tableFault (i .ask .nodes) (i .table) ≡ good) (large : tooSmall i ≡ false) where
+module _ (i : Input) (ok : tableFault (i .ask .nodes) (i .table) ≡ good) (right : wrongClosures i ≡ false) (large : tooSmall i ≡ false) where
   -- by what the refusals before the rounds come to, and by the theory's refusal
   by : (x : Told) (n : ℕ) → refusedOf i ≡ x → refusal (queryOf i) (i .k) ≡ n → cond (eqb (x .outcome) 0) (told 1 (roundsOf i)) x ≡ replyTo (queryOf i) (i .k) n (roundsOf i) .told → tellsDue i ≡ reply (queryOf i) (i .k) .told
   unfolding tellsDue reaches replyBy
@@ -210,19 +210,19 @@ module _ (i : Input) (ok : tableFault (i .ask .nodes) (i .table) ≡ good) (larg
   reply-tells = go (refusal (queryOf i) (i .k)) refl
     where
       go : (n : ℕ) → refusal (queryOf i) (i .k) ≡ n → tellsDue i ≡ reply (queryOf i) (i .k) .told
-      go zero e = by good 0 (refused-room i ok e false large) e refl
+      go zero e = by good 0 (refused-room i ok right e false large) e refl
       go (suc n) e =
           let z = eqb·suc-zero n in
-          by (plain (suc n)) (suc n) (refused-number i ok (suc n) e z) e (ap (λ b. cond b (told 1 (roundsOf i)) (plain (suc n))) z)
+          by (plain (suc n)) (suc n) (refused-number i ok right (suc n) e z) e (ap (λ b. cond b (told 1 (roundsOf i)) (plain (suc n))) z)
 
 -- each proved case: an input that asks it is told what the table says
 figure-reply : (fs : List Figure) → map (λ f. reply (f .asked) (f .k)) fs ≡ map (λ f. f .due) fs → (f : Figure) → List·Memᴰ f fs → reply (f .asked) (f .k) ≡ f .due
 figure-reply (x ∷ fs) h f (List·Memᴰ·head e) = let k : reply (x .asked) (x .k) ≡ x .due = cc in subst (λ y. reply (y .asked) (y .k) ≡ y .due) (sym e) k
 figure-reply (x ∷ fs) h f (List·Memᴰ·tail m) = let k : map (λ y. reply (y .asked) (y .k)) fs ≡ map (λ y. y .due) fs = cc in figure-reply fs k f m
 
-pub figure-told : (i : Input) → tableFault (i .ask .nodes) (i .table) ≡ good → tooSmall i ≡ false → (f : Figure) → List·Memᴰ f figures → queryOf i ≡ f .asked → i .k ≡ f .k → tellsDue i ≡ f .due .told
-figure-told i ok large f m e h =
-    reply-tells i ok large ∙ ap₂ (λ q k. reply q k .told) e h ∙ ap (λ (r : Reply). r .told) (figure-reply figures figures-hold f m)
+pub figure-told : (i : Input) → tableFault (i .ask .nodes) (i .table) ≡ good → wrongClosures i ≡ false → tooSmall i ≡ false → (f : Figure) → List·Memᴰ f figures → queryOf i ≡ f .asked → i .k ≡ f .k → tellsDue i ≡ f .due .told
+figure-told i ok right large f m e h =
+    reply-tells i ok right large ∙ ap₂ (λ q k. reply q k .told) e h ∙ ap (λ (r : Reply). r .told) (figure-reply figures figures-hold f m)
 
 -- and its routes and summaries, where it reaches the rounds, are those of the table
 pub figure-made : (i : Input) → reaches i ≡ true → (f : Figure) → List·Memᴰ f figures → queryOf i ≡ f .asked → i .k ≡ f .k

@@ -90,7 +90,7 @@ module _ (q : Query) where
 
 module _ (i : Input) (h : reaches i ≡ true) where
   valid : Valid (queryOf i)
-  valid = let w = reached i h in accepted-valid (passed i (w .0) (w .1) .ask) (i .labels)
+  valid = let w = reached i h in accepted-valid (passed i (w .0) (w .1) .ask) (i .closed) (i .labels)
 
   answers-are : (j : ℕ) → j < length (answers (roundsOf i)) → Answers (queryOf i) (before i j) (getD (answers (roundsOf i)) j [])
   answers-are j m =

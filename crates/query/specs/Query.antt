@@ -1,6 +1,6 @@
 -- What a query shows and leaves, for every input.
 use mathlib.Core.Path.{_≡_}
-use mathlib.Core.Bool.{Bool, not, _||_, cond}
+use mathlib.Core.Bool.{Bool, true, false, not, _&&_, _||_, cond}
 use mathlib.Core.List.{List, [], _++_, map}
 use Prim.Native.Nat.{ℕ, _*_, _≤_}
 use lib.Dec.{ltb, eqb}
@@ -8,9 +8,10 @@ use lib.ListN.{length, drop, replicate}
 use Rattle.net.specs.Limits.{mostLabels, mostRoutes}
 use Rattle.net.specs.Round.{Query, Ending}
 use Rattle.outcome.specs.declared.Told.{Told}
-use Rattle.outcome.specs.Outcome.{buffers, plain}
+use Rattle.outcome.specs.Outcome.{buffers, closures, plain}
 use Rattle.net.specs.Outcome.{told, roundsBy, rounds, answers, summaries, refusal}
 use Rattle.table.specs.Fault.{tableFault, good}
+use Rattle.closures.specs.Closed.{wrong}
 use Rattle.search_ask.specs.declared.Ask.{Ask}
 use Rattle.search_ask.specs.Ask.{queryFor, roomIn}
 use Rattle.summary.specs.declared.Summary.{Summary}
@@ -18,10 +19,13 @@ use Rattle.summary.specs.Sums.{written}
 use Rattle.query_rounds.specs.Area.{areaWith}
 use Rattle.query_rounds.specs.Progress.{asRecord}
 use Rattle.query_rounds.specs.declared.Got.{Got}
+use Rattle.query.specs.declared.Wish.{Wish}
 
--- All that a query is given. `lent` is the number of summaries.
+-- All that a query is given. `closed` are the closure bytes, none where no closures are lent; `lent` is the number of summaries.
 pub record Input : Type 0 where
   pub table : List ℕ
+  pub closed : List ℕ
+  pub closing : Bool
   pub ask : Ask
   pub k : ℕ
   pub labels : List ℕ
@@ -29,7 +33,11 @@ pub record Input : Type 0 where
   pub lent : ℕ
 
 abbrev pub queryOf : Input → Query
-queryOf i = queryFor (i .ask) (i .table) (i .labels)
+queryOf i = queryFor (i .ask) (i .table) (i .closed) (i .labels)
+
+-- 15: "closure bytes of another number than the arcs or with another value"
+abbrev pub wrongClosures : Input → Bool
+wrongClosures i = i .closing && wrong (i .table) (i .closed)
 
 -- A slot has (nodes − 1) words.
 abbrev pub width : Input → ℕ
@@ -39,13 +47,14 @@ width i = Rattle.search_ask.specs.Ask.width (i .ask)
 unfoldable pub tooSmall : Input → Bool
 tooSmall i = ltb (length (i .area)) (i .k * width i) || ltb (i .lent) (i .k) || ltb mostLabels (roomIn (i .labels))
 
--- "Order: 13 first, then the records. [...] Then 7, 8, 9, 10, then the rounds."
+-- "Order: 13 first, then the records. [...] Then 7, 8, 9, 10, then the rounds." 15 "comes after 6 and before 7".
 unfoldable pub refusedOf : Input → Told
-unfolding tableFault refusal tooSmall
+unfolding tableFault wrong refusal tooSmall
 refusedOf i =
     cond (not (eqb (tableFault (i .ask .nodes) (i .table) .outcome) 0)) (tableFault (i .ask .nodes) (i .table))
+    (cond (wrongClosures i) (plain closures)
     (cond (not (eqb (refusal (queryOf i) (i .k)) 0)) (plain (refusal (queryOf i) (i .k)))
-    (cond (tooSmall i) (plain buffers) good))
+    (cond (tooSmall i) (plain buffers) good)))
 
 -- The query reaches the rounds.
 unfoldable pub reaches : Input → Bool
@@ -60,7 +69,7 @@ unfoldable pub tellsDue : Input → Told
 unfolding reaches roundsBy told
 tellsDue i = cond (reaches i) (told 1 (roundsOf i)) (refusedOf i)
 
--- "Refusals 2 to 10 and 13 change nothing in any buffer." "After 0, 1 or 11 every byte of that buffer is zero."
+-- "Refusals 2 to 10 and 13 change nothing in any buffer", and 15 as "a new refusal". "After 0, 1 or 11 every byte of that buffer is zero."
 unfoldable pub labelsDue : Input → List ℕ
 unfolding reaches
 labelsDue i = cond (reaches i) (replicate (length (i .labels)) 0) (i .labels)
@@ -74,12 +83,18 @@ unfoldable pub sumsDue : Input → List Summary → List Summary
 unfolding reaches roundsBy summaries
 sumsDue i before = cond (reaches i) (map asRecord (summaries (queryOf i) (i .k) (roundsOf i)) ++ drop (i .k) before) before
 
--- An input by its parts, and by the numbers of the public call.
-abbrev pub asked : List ℕ → Ask → ℕ → List ℕ → List ℕ → ℕ → Input
-asked table ask k labels area lent = record { table = table; ask = ask; k = k; labels = labels; area = area; lent = lent }
+-- An input by its parts, and by the numbers of the public calls: without closures, and with them.
+abbrev pub asked : List ℕ → List ℕ → Ask → Wish → List ℕ → List ℕ → Input
+asked table closed ask wish labels area =
+    record { table = table; closed = closed; closing = wish .closing; ask = ask; k = wish .k; labels = labels; area = area; lent = wish .lent }
 
 abbrev pub input : List ℕ → ℕ → ℕ → ℕ → ℕ → ℕ → ℕ → List ℕ → List ℕ → ℕ → Input
-input table nodes s goal k a b labels area lent = asked table (record { nodes = nodes; s = s; goal = goal; a = a; b = b }) k labels area lent
+input table nodes s goal k a b labels area lent =
+    asked table [] (record { nodes = nodes; s = s; goal = goal; a = a; b = b }) (record { k = k; lent = lent; closing = false }) labels area
+
+abbrev pub inputClosed : List ℕ → ℕ → ℕ → ℕ → ℕ → ℕ → ℕ → List ℕ → List ℕ → List ℕ → ℕ → Input
+inputClosed table nodes s goal k a b closed labels area lent =
+    asked table closed (record { nodes = nodes; s = s; goal = goal; a = a; b = b }) (record { k = k; lent = lent; closing = true }) labels area
 
 -- What the public call shows and leaves: the outcome and the final contents of all three buffers, by functions of the input.
 pub record Replied (i : Input) (x : Told) (labels′ area′ : List ℕ) (sums₀ sums′ : List Summary) : Type 0 where

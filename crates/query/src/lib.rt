@@ -3,20 +3,30 @@ use outcome::Told;
 use query_rounds::Got;
 use search_ask::Ask;
 ghost use mathlib.Core.Path.{_≡_};
+ghost use mathlib.Core.Bool.{_&&_};
+ghost use mathlib.Core.List.{[]};
 ghost use Prim.Native.Nat.{_≤_};
 ghost use Rattle.net.specs.Limits.{mostNodes, mostRoutes};
 ghost use Rattle.net.specs.Outcome.{refusal};
+ghost use Rattle.closures.specs.Closed.{wrong};
 ghost use Rattle.search_ask.specs.Ask.{queryFor};
-ghost use Rattle.query.specs.Query.{asked, input, tooSmall, refusedOf, Cored};
+ghost use Rattle.query.specs.Query.{asked, input, inputClosed, tooSmall, refusedOf, Cored};
 
 pub const MOST_B: u32 = 1000;
 
 pub const MOST_LABELS: usize = 65535;
 
+// What is wanted beside the ask: how many routes, how many summaries are lent, and whether closures
+// are.
+pub struct Wish {
+    pub k: u32,
+    pub lent: usize,
+    pub closing: bool,
+}
+
 // 7, 8 or 9, or 0 where there is none of them.
-fn refusal(table: &[u8], ask: Ask, k: u32, labels: &[u8]) -> u32
-    ensures { λ r. ⌜ r
-        ≡ refusal (queryFor ask (now (table .entry)) (now (labels .entry))) k ⌝ }
+fn refusal(ask: Ask, k: u32) -> u32
+    ensures { λ r. ⌜ r ≡ refusal (queryFor ask [] [] []) k ⌝ }
 {
     if ask.nodes <= ask.s {
         return outcome::ENDS;
@@ -45,15 +55,15 @@ fn refusal(table: &[u8], ask: Ask, k: u32, labels: &[u8]) -> u32
     0
 }
 
-// Whether a buffer is too small, or the label buffer too large. `lent` is the number of summaries
-// lent.
-fn too_small(table: &[u8], ask: Ask, k: u32, labels: &[u8], area: &[u32], lent: usize) -> bool
-    requires { ⌜ (1 ≤ ask .nodes) × (ask .nodes ≤ mostNodes) × (k ≤ mostRoutes) ⌝ }
+// Whether a buffer is too small, or the label buffer too large.
+fn too_small(ask: Ask, wish: Wish, labels: &[u8], area: &[u32]) -> bool
+    requires { ⌜ (1 ≤ ask .nodes) × (ask .nodes ≤ mostNodes) × (wish .k ≤ mostRoutes) ⌝ }
     ensures { λ r. ⌜ r ≡ tooSmall
-        (asked (now (table .entry)) ask k (now (labels .entry)) (now (area .entry)) lent) ⌝ }
+        (asked [] [] ask wish (now (labels .entry)) (now (area .entry))) ⌝ }
 {
     let w = ask.nodes as usize - 1;
-    let wanted = k as usize;
+    let wanted = wish.k as usize;
+    let lent = wish.lent;
     if area.len() < wanted * w {
         return true;
     }
@@ -63,22 +73,42 @@ fn too_small(table: &[u8], ask: Ask, k: u32, labels: &[u8], area: &[u32], lent: 
     MOST_LABELS < labels.len() / labels::field::LABEL
 }
 
-// The decisions before the rounds: 13 and the records, then 7, 8, 9 and 10; 0 where the rounds are
-// to be made.
-pub fn refused(table: &[u8], ask: Ask, k: u32, labels: &[u8], area: &[u32], lent: usize) -> Told
-    ensures { λ r. ⌜ r ≡ refusedOf
-        (asked (now (table .entry)) ask k (now (labels .entry)) (now (area .entry)) lent) ⌝ }
+// Whether closures are lent that are of another number than the arcs, or have another value.
+fn wrong_closures(table: &[u8], closed: &[u8], closing: bool) -> bool
+    ensures { λ r. ⌜ r ≡ (closing && wrong (now (table .entry)) (now (closed .entry))) ⌝ }
+{
+    if closing {
+        return closures::wrong(table, closed);
+    }
+    false
+}
+
+// The decisions before the rounds: 13 and the records, 15, then 7, 8, 9 and 10; 0 where the rounds
+// are to be made.
+pub fn refused(
+    table: &[u8],
+    closed: &[u8],
+    ask: Ask,
+    wish: Wish,
+    labels: &[u8],
+    area: &[u32],
+) -> Told
+    ensures { λ r. ⌜ r ≡ refusedOf (asked (now (table .entry)) (now (closed .entry)) ask wish
+        (now (labels .entry)) (now (area .entry))) ⌝ }
 {
     let nodes = ask.nodes;
     let told = table::fault::check(table, nodes);
     if told.outcome != outcome::FOUND {
         return told;
     }
-    let f = refusal(table, ask, k, labels);
+    if wrong_closures(table, closed, wish.closing) {
+        return outcome::plain(outcome::CLOSURES);
+    }
+    let f = refusal(ask, wish.k);
     if f != 0 {
         return outcome::plain(f);
     }
-    if too_small(table, ask, k, labels, area, lent) {
+    if too_small(ask, wish, labels, area) {
         return outcome::plain(outcome::BUFFERS);
     }
     told
@@ -100,17 +130,35 @@ fn refuse(told: Told) -> Got
     }
 }
 
-// The query of an ask for k routes.
-fn decide(table: &[u8], ask: Ask, k: u32, labels: &mut [u8], area: &mut [u32], lent: usize) -> Got
-    ensures { λ g. ⌜ Cored
-        (asked (now (table .entry)) ask k (now (labels .entry)) (now (area .entry)) lent) g
-        (now (labels .exit)) (now (area .exit)) ⌝ }
+// The query of an ask.
+fn decide(
+    table: &[u8],
+    closed: &[u8],
+    ask: Ask,
+    wish: Wish,
+    labels: &mut [u8],
+    area: &mut [u32],
+) -> Got
+    ensures { λ g. ⌜ Cored (asked (now (table .entry)) (now (closed .entry)) ask wish
+        (now (labels .entry)) (now (area .entry))) g (now (labels .exit)) (now (area .exit)) ⌝ }
 {
-    let told = refused(table, ask, k, labels, area, lent);
+    let told = refused(table, closed, ask, wish, labels, area);
     if told.outcome != outcome::FOUND {
         return refuse(told);
     }
-    query_rounds::all(table, ask, k as usize, labels, area)
+    query_rounds::all(table, closed, ask, wish.k as usize, labels, area)
+}
+
+fn ask_of(nodes: u32, s: u32, goal: u32, a: u32, b: u32) -> Ask
+    ensures { λ r. ⌜ r ≡ record { nodes = nodes; s = s; goal = goal; a = a; b = b } ⌝ }
+{
+    Ask {
+        nodes: nodes,
+        s: s,
+        goal: goal,
+        a: a,
+        b: b,
+    }
 }
 
 // The query on plain numbers: it takes each decision and does the work, and says which summaries
@@ -130,12 +178,38 @@ pub fn core(
     ensures { λ g. ⌜ Cored (input (now (table .entry)) nodes s goal k a b (now (labels .entry))
         (now (area .entry)) lent) g (now (labels .exit)) (now (area .exit)) ⌝ }
 {
-    let ask = Ask {
-        nodes: nodes,
-        s: s,
-        goal: goal,
-        a: a,
-        b: b,
+    let ask = ask_of(nodes, s, goal, a, b);
+    let wish = Wish {
+        k: k,
+        lent: lent,
+        closing: false,
     };
-    decide(table, ask, k, labels, area, lent)
+    decide(table, &table[0..0], ask, wish, labels, area)
+}
+
+// The same over the arcs that are not closed: `closed` has a byte for each arc, 0 open and 1 closed.
+pub fn core_closed(
+    table: &[u8],
+    nodes: u32,
+    s: u32,
+    goal: u32,
+    k: u32,
+    a: u32,
+    b: u32,
+    closed: &[u8],
+    labels: &mut [u8],
+    area: &mut [u32],
+    lent: usize,
+) -> Got
+    ensures { λ g. ⌜ Cored (inputClosed (now (table .entry)) nodes s goal k a b
+        (now (closed .entry)) (now (labels .entry)) (now (area .entry)) lent) g
+        (now (labels .exit)) (now (area .exit)) ⌝ }
+{
+    let ask = ask_of(nodes, s, goal, a, b);
+    let wish = Wish {
+        k: k,
+        lent: lent,
+        closing: true,
+    };
+    decide(table, closed, ask, wish, labels, area)
 }

@@ -27,26 +27,26 @@ pub record Gone (q : Query) (w k : ℕ) (l₀ a₀ l a : List ℕ) (x : Progress
   pub area-long : length a ≡ length a₀
   pub slots : Slotted w k a₀ 0 a (x .r)
 
-module _ (ask : Ask) (t : List ℕ) (k : ℕ) (l₀ a₀ : List ℕ) where
-  pub gone-start : 1 ≤ k → Gone (queryFor ask t l₀) (width ask) k l₀ a₀ l₀ a₀ atStart
-  gone-start h = record { underway = underway-start (queryFor ask t l₀) (width ask) k a₀ h; labels-long = refl; area-long = refl; slots = λ b e. e }
+module _ (ask : Ask) (t closed : List ℕ) (k : ℕ) (l₀ a₀ : List ℕ) where
+  pub gone-start : 1 ≤ k → Gone (queryFor ask t closed l₀) (width ask) k l₀ a₀ l₀ a₀ atStart
+  gone-start h = record { underway = underway-start (queryFor ask t closed l₀) (width ask) k a₀ h; labels-long = refl; area-long = refl; slots = λ b e. e }
 
-  module _ (l a : List ℕ) (x : Progress) (g : Gone (queryFor ask t l₀) (width ask) k l₀ a₀ l a x) where
-    pub gone-underway : Underway (queryFor ask t l) (width ask) k a x
-    gone-underway = subst (λ q. Underway q (width ask) k a x) (query-same ask t [] l₀ l (sym (g .labels-long))) (g .underway)
+  module _ (l a : List ℕ) (x : Progress) (g : Gone (queryFor ask t closed l₀) (width ask) k l₀ a₀ l a x) where
+    pub gone-underway : Underway (queryFor ask t closed l) (width ask) k a x
+    gone-underway = subst (λ q. Underway q (width ask) k a x) (query-same ask t closed [] l₀ l (sym (g .labels-long))) (g .underway)
 
-    module _ (l′ a′ : List ℕ) (y : Progress) (long : length l′ ≡ length l) (s : Stepped (queryFor ask t l) (width ask) k a x a′ y) where
-      pub gone-step : Gone (queryFor ask t l₀) (width ask) k l₀ a₀ l′ a′ y
+    module _ (l′ a′ : List ℕ) (y : Progress) (long : length l′ ≡ length l) (s : Stepped (queryFor ask t closed l) (width ask) k a x a′ y) where
+      pub gone-step : Gone (queryFor ask t closed l₀) (width ask) k l₀ a₀ l′ a′ y
       gone-step =
           record {
-            underway = subst (λ q. Underway q (width ask) k a′ y) (query-same ask t [] l l₀ (g .labels-long)) (s .underway);
+            underway = subst (λ q. Underway q (width ask) k a′ y) (query-same ask t closed [] l l₀ (g .labels-long)) (s .underway);
             labels-long = long ∙ g .labels-long;
             area-long = s .long ∙ g .area-long;
             slots = λ b e. s .slots b (g .slots b e);
           }
 
     pub gone-end : (b : List ℕ) → k ≤ mostRoutes → a₀ ≡ patch 0 (k * (width ask)) b (replicate (k * (width ask) - 0) noNumber) → x .stage ≢ 0
-        → (l′ : List ℕ) → l′ ≡ replicate (length l) 0 → (r : Got) → r .told ≡ outcomeAt (x .stage) (x .r) → r .sums ≡ x .sums → r .n ≡ k → Finished (queryFor ask t l₀) (width ask) k l₀ b r l′ a
+        → (l′ : List ℕ) → l′ ≡ replicate (length l) 0 → (r : Got) → r .told ≡ outcomeAt (x .stage) (x .r) → r .sums ≡ x .sums → r .n ≡ k → Finished (queryFor ask t closed l₀) (width ask) k l₀ b r l′ a
     unfolding earlierIn upFrom
     gone-end b h e late l′ z r tells sums all =
-        finished (queryFor ask t l₀) (width ask) k l₀ b a x r l′ h (g .underway) late (g .slots b (e ∙ area-blank (width ask) k b)) tells sums all (z ∙ ap (λ n. replicate n 0) (g .labels-long))
+        finished (queryFor ask t closed l₀) (width ask) k l₀ b a x r l′ h (g .underway) late (g .slots b (e ∙ area-blank (width ask) k b)) tells sums all (z ∙ ap (λ n. replicate n 0) (g .labels-long))

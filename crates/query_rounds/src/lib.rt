@@ -47,6 +47,7 @@ fn stage_after(r: usize, k: usize) -> u8
 // One round more.
 pub fn step(
     table: &[u8],
+    closed: &[u8],
     ask: Ask,
     k: usize,
     labels: &mut [u8],
@@ -54,15 +55,16 @@ pub fn step(
     x: Progress,
 ) -> Progress
     requires { ⌜ (Wanted ask (now table) k (now labels) (now area)) × (x .stage ≡ 0)
-        × (Underway (queryFor ask (now table) (now labels)) (width ask) k (now area) x) ⌝ }
+        × (Underway (queryFor ask (now table) (now closed) (now labels)) (width ask) k
+        (now area) x) ⌝ }
     ensures { λ y. ⌜ (length (now (labels .exit)) ≡ length (now (labels .entry)))
-        × (Stepped (queryFor ask (now (table .entry)) (now (labels .entry))) (width ask) k
-        (now (area .entry)) x (now (area .exit)) y) ⌝ }
+        × (Stepped (queryFor ask (now (table .entry)) (now (closed .entry))
+        (now (labels .entry))) (width ask) k (now (area .entry)) x (now (area .exit)) y) ⌝ }
 {
     let r = x.r;
     let sums = x.sums;
     let lens = sums.length;
-    let e = round::round(table, ask, area, &lens[0..r], labels);
+    let e = round::round(table, closed, ask, area, &lens[0..r], labels);
     match e {
         Ended::Answer(l, m, n) => {
             let row = Summary {
@@ -122,10 +124,17 @@ fn tell(stage: u8, r: usize) -> Told
 
 // All rounds of a query for k routes: the slots are blank at first, and the labels are cleared at
 // the end.
-pub fn all(table: &[u8], ask: Ask, k: usize, labels: &mut [u8], area: &mut [u32]) -> Got
+pub fn all(
+    table: &[u8],
+    closed: &[u8],
+    ask: Ask,
+    k: usize,
+    labels: &mut [u8],
+    area: &mut [u32],
+) -> Got
     requires { ⌜ (Wanted ask (now table) k (now labels) (now area)) × (1 ≤ k) ⌝ }
-    ensures { λ g. ⌜ Finished (queryFor ask (now (table .entry)) (now (labels .entry)))
-        (width ask) k (now (labels .entry)) (now (area .entry)) g
+    ensures { λ g. ⌜ Finished (queryFor ask (now (table .entry)) (now (closed .entry))
+        (now (labels .entry))) (width ask) k (now (labels .entry)) (now (area .entry)) g
         (now (labels .exit)) (now (area .exit)) ⌝ }
 {
     let w = ask.nodes as usize - 1;
@@ -142,7 +151,7 @@ pub fn all(table: &[u8], ask: Ask, k: usize, labels: &mut [u8], area: &mut [u32]
         },
     };
     while x.stage == GOING {
-        x = step(table, ask, k, labels, area, x);
+        x = step(table, closed, ask, k, labels, area, x);
     }
     words::fill::fill8(labels, 0);
     let sums = x.sums;

@@ -74,7 +74,7 @@ module _ (q : Query) (earlier : List (List ℕ)) (v : Valid q) (l : List ℕ) (x
       (ends-none q earlier v (guide q) (by-length (q .net) (q .s)) (chainsIn l (x .n)) (step-none q earlier v (guide q) (by-length (q .net) (q .s)) (chainsIn l (x .n)) (lastIn l (x .last)) (g .taken) (omega (arith, length-chainsIn l (x .n), g .begun)) e) (g .short) (omega (arith, length-chainsIn l (x .n), g .fits))))
 
   -- the first candidate is label i's chain with arc a
-  module _ (c : Candidate) (points : Points (q .net) (q .s) l (x .n) c) (real : c .arc ≢ noNumber) (first : next (guide q) (q .net) (q .s) (chainsIn l (x .n)) (lastIn l (x .last)) ≡ some (chainOf l c)) where
+  module _ (c : Candidate) (points : Points (q .net .arcs) (x .n) c) (real : c .arc ≢ noNumber) (first : next (guide q) (q .net) (q .s) (chainsIn l (x .n)) (lastIn l (x .last)) ≡ some (chainOf l c)) where
     -- it is dropped: the labels' chains are the live ones not after it, too
     going : chainsIn l (x .n) ≡ upTo (guide q) q earlier (chainOf l c) → Going q earlier l (record { n = x .n; last = c; stage = 0 })
     going e =
@@ -186,9 +186,7 @@ module _ (q : Query) (earlier : List (List ℕ)) (v : Valid q) (l : List ℕ) (x
               fits = omega arith;
               points = record {
                 label-below = λ e. omega (arith, label-below);
-                leaves-end = λ e.
-                    subst (λ p. T (Rattle.net.specs.Route.leaves (q .net) (endOf (q .net .arcs) (q .s) p) (c .arc))) (sym (chain-other row (g .standing .down) (c .label) label-below))
-                    (points .leaves-end real);
+                arc-below = λ e. points .arc-below real;
               };
               taken = chains-up ∙ up ∙ sym (ap (upTo (guide q) q earlier) last-up);
               read = read-up;
@@ -280,7 +278,7 @@ module _ (q : Query) (earlier : List (List ℕ)) (v : Valid q) (few : length ear
         holding = holding-first (q .net) (q .s) earlier l s bytes few;
         begun = λ e. omega arith;
         fits = room;
-        points = record { label-below = λ e. absurd (e refl); leaves-end = λ e. absurd (e refl) };
+        points = record { label-below = λ e. absurd (e refl); arc-below = λ e. absurd (e refl) };
         taken = chains-first opened ∙ step-start q earlier v (guide q) (by-length (q .net) (q .s)) ∙ sym (ap (upTo (guide q) q earlier) (last-none opened (record { label = 0; arc = noNumber }) refl));
         read = labels-in-first opened (last-arc-same l 0 (emptyRow (q .net) (q .s) earlier) bytes (fits-empty (q .net) (q .s) earlier s few)) ∙ sym (ap labels (chains-first opened));
         short = λ p m e. apart (subst (λ z. endOf (q .net .arcs) (q .s) z ≡ q .t) (List·Memᴰ·eq-of-singleton (subst (List·Memᴰ p) (chains-first opened) m)) e);
@@ -304,7 +302,7 @@ module _ (q : Query) (earlier : List (List ℕ)) (v : Valid q) (few : length ear
 
 -- ---- a turn, as the code has it: c is what `next` gave
 
-module _ (q : Query) (earlier : List (List ℕ)) (v : Valid q) (l : List ℕ) (x : State) (g : Going q earlier l x) (at : x .stage ≡ 0) (c : Candidate) (points : Points (q .net) (q .s) l (x .n) c) (seen : candidateIn l c ≡ next (guide q) (q .net) (q .s) (chainsIn l (x .n)) (lastIn l (x .last))) where
+module _ (q : Query) (earlier : List (List ℕ)) (v : Valid q) (l : List ℕ) (x : State) (g : Going q earlier l x) (at : x .stage ≡ 0) (c : Candidate) (points : Points (q .net .arcs) (x .n) c) (seen : candidateIn l c ≡ next (guide q) (q .net) (q .s) (chainsIn l (x .n)) (lastIn l (x .last))) where
   pub turned-none : c .arc ≡ noNumber → Turned q earlier l x l (record { n = x .n; last = x .last; stage = 2 })
   turned-none e =
       record {

@@ -41,7 +41,7 @@ pub record Going (q : Query) (earlier : List (List ℕ)) (labels : List ℕ) (x 
   pub holding : Holding (q .net) earlier labels (x .n)
   pub begun : x .n ≢ 0
   pub fits : x .n ≤ q .room
-  pub points : Points (q .net) (q .s) labels (x .n) (x .last)
+  pub points : Points (q .net .arcs) (x .n) (x .last)
   pub taken : chainsIn labels (x .n) ≡ upTo (guide q) q earlier (lastIn labels (x .last))
   pub read : labelsIn labels (x .n) ≡ Rattle.net.specs.Labels.labels (chainsIn labels (x .n))
   pub short : (p : List ℕ) → List·Memᴰ p (chainsIn labels (x .n)) → endOf (q .net .arcs) (q .s) p ≢ q .t

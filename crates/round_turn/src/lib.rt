@@ -52,18 +52,27 @@ fn take_up(table: &[u8], ask: Ask, labels: &mut [u8], n: usize, c: Candidate, ow
 }
 
 // One turn.
-fn turn(table: &[u8], ask: Ask, area: &[u32], lens: &[u64], labels: &mut [u8], x: State) -> State
+fn turn(
+    table: &[u8],
+    closed: &[u8],
+    ask: Ask,
+    area: &[u32],
+    lens: &[u64],
+    labels: &mut [u8],
+    x: State,
+) -> State
     requires { ⌜ (Ready ask (now table) (now area) (now lens) (now labels)) × (x .stage ≡ 0)
-        × (Going (queryFor ask (now table) (now labels)) (earlierOf ask (now area) (now lens))
-        (now labels) x) ⌝ }
-    ensures { λ y. ⌜ Turned (queryFor ask (now (table .entry)) (now (labels .entry)))
+        × (Going (queryFor ask (now table) (now closed) (now labels))
+        (earlierOf ask (now area) (now lens)) (now labels) x) ⌝ }
+    ensures { λ y. ⌜ Turned (queryFor ask (now (table .entry)) (now (closed .entry))
+        (now (labels .entry)))
         (earlierOf ask (now (area .entry)) (now (lens .entry)))
         (now (labels .entry)) x (now (labels .exit)) y ⌝ }
 {
     let n = x.n;
     let last = x.last;
     let seen = Seen { n: n, last: last };
-    let c = search_next::next(table, ask, labels, seen);
+    let c = search_next::next(table, closed, ask, labels, seen);
     if c.arc == search_ask::NO_ARC {
         return State {
             n: n,
@@ -94,9 +103,17 @@ fn turn(table: &[u8], ask: Ask, area: &[u32], lens: &[u64], labels: &mut [u8], x
 }
 
 // The first label, the empty chain at s; or no room for it.
-fn begin(table: &[u8], ask: Ask, area: &[u32], lens: &[u64], labels: &mut [u8]) -> State
+fn begin(
+    table: &[u8],
+    closed: &[u8],
+    ask: Ask,
+    area: &[u32],
+    lens: &[u64],
+    labels: &mut [u8],
+) -> State
     requires { ⌜ Ready ask (now table) (now area) (now lens) (now labels) ⌝ }
-    ensures { λ y. ⌜ Searched (queryFor ask (now (table .entry)) (now (labels .entry)))
+    ensures { λ y. ⌜ Searched (queryFor ask (now (table .entry)) (now (closed .entry))
+        (now (labels .entry)))
         (earlierOf ask (now (area .entry)) (now (lens .entry)))
         (now (labels .entry)) (now (labels .exit)) y ⌝ }
 {
@@ -122,17 +139,25 @@ fn begin(table: &[u8], ask: Ask, area: &[u32], lens: &[u64], labels: &mut [u8]) 
     }
 }
 
-// All turns of a round after the earlier answers, whose lengths are `lens`.
-pub fn search(table: &[u8], ask: Ask, area: &[u32], lens: &[u64], labels: &mut [u8]) -> State
+// All turns of a round after the earlier answers, whose lengths are `lens`, over the arcs that are
+// not closed.
+pub fn search(
+    table: &[u8],
+    closed: &[u8],
+    ask: Ask,
+    area: &[u32],
+    lens: &[u64],
+    labels: &mut [u8],
+) -> State
     requires { ⌜ Ready ask (now table) (now area) (now lens) (now labels) ⌝ }
     ensures { λ y. ⌜ (y .stage ≢ 0)
-        × (Searched (queryFor ask (now (table .entry)) (now (labels .entry)))
+        × (Searched (queryFor ask (now (table .entry)) (now (closed .entry)) (now (labels .entry)))
         (earlierOf ask (now (area .entry)) (now (lens .entry)))
         (now (labels .entry)) (now (labels .exit)) y) ⌝ }
 {
-    let mut x = begin(table, ask, area, lens, labels);
+    let mut x = begin(table, closed, ask, area, lens, labels);
     while x.stage == GOING {
-        x = turn(table, ask, area, lens, labels, x);
+        x = turn(table, closed, ask, area, lens, labels, x);
     }
     x
 }

@@ -15,8 +15,8 @@ use Rattle.search_ask.specs.declared.Ask.{Ask}
 use Rattle.search_ask.specs.Ask.{Accepted, queryFor}
 
 module _ {ask : Ask} {t : List ℕ} (h : Accepted ask t) where
-  pub accepted-valid : (labels : List ℕ) → Valid (queryFor ask t labels)
-  accepted-valid labels = record { s-below = h .s-below; sound = table-sound (ask .nodes) t (h .no-fault) }
+  pub accepted-valid : (closed labels : List ℕ) → Valid (queryFor ask t closed labels)
+  accepted-valid closed labels = record { s-below = h .s-below; sound = table-sound (ask .nodes) t (h .no-fault) closed }
 
   pub few-records : records t ≤ mostArcs
   few-records = good-size (ask .nodes) t (h .no-fault) .3

@@ -5,10 +5,10 @@ use mathlib.Core.List.{List, [], _∷_, _++_}
 use mathlib.Core.Logic.{_≢_}
 use mathlib.Core.Option.{Option, none, some}
 use Prim.Native.Nat.{ℕ, _-_, _/_, _≤_, _<_}
-use lib.Dec.{T, eqb}
+use lib.Dec.{eqb}
 use lib.ListN.{length}
-use Rattle.net.specs.Net.{Net}
-use Rattle.net.specs.Route.{endOf, leaves}
+use Rattle.net.specs.Net.{Arc, Net}
+use Rattle.net.specs.Route.{endOf}
 use Rattle.net.specs.Round.{Query}
 use Rattle.net.specs.Limits.{mostB}
 use Rattle.table.specs.Table.{records, arcsOf, netOf}
@@ -27,12 +27,13 @@ roomIn labels = length labels / labelBytes
 abbrev pub width : Ask → ℕ
 width ask = ask .nodes - 1
 
-abbrev pub netFor : Ask → List ℕ → Net
-netFor ask table = netOf (ask .nodes) table
+-- Over the open arcs: `closed` are the closure bytes, or none.
+abbrev pub netFor : Ask → List ℕ → List ℕ → Net
+netFor ask table closed = netOf (ask .nodes) table closed
 
-abbrev pub queryFor : Ask → List ℕ → List ℕ → Query
-queryFor ask table labels =
-    record { net = netFor ask table; s = ask .s; t = ask .goal; a = ask .a; b = ask .b; room = roomIn labels }
+abbrev pub queryFor : Ask → List ℕ → List ℕ → List ℕ → Query
+queryFor ask table closed labels =
+    record { net = netFor ask table closed; s = ask .s; t = ask .goal; a = ask .a; b = ask .b; room = roomIn labels }
 
 -- What has passed the refusals.
 pub record Accepted (ask : Ask) (table : List ℕ) : Type 0 where
@@ -72,10 +73,7 @@ lastIn labels c = cond (eqb (c .arc) noNumber) [] (chainOf labels c)
 abbrev pub endIn : Ask → List ℕ → List ℕ → ℕ → ℕ
 endIn ask table labels label = endOf (arcsOf table) (ask .s) (chainAt labels label)
 
--- Where it is not none, a candidate's label is one of the n, and its arc leaves that label's end.
-pub record Points (net : Net) (s : ℕ) (labels : List ℕ) (n : ℕ) (c : Candidate) : Type 0 where
+-- Where it is not none, a candidate's label is one of the n, and its arc one of the arcs.
+pub record Points (arcs : List Arc) (n : ℕ) (c : Candidate) : Type 0 where
   pub label-below : c .arc ≢ noNumber → c .label < n
-  pub leaves-end : c .arc ≢ noNumber → T (leaves net (endOf (net .arcs) s (chainAt labels (c .label))) (c .arc))
-
-abbrev pub PointsIn : Ask → List ℕ → List ℕ → ℕ → Candidate → Type 0
-PointsIn ask table labels n c = Points (netFor ask table) (ask .s) labels n c
+  pub arc-below : c .arc ≢ noNumber → c .arc < length arcs

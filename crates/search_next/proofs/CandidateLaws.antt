@@ -3,31 +3,32 @@
 use mathlib.Core.Path.{_≡_, refl, sym, ap, _∙_}
 use mathlib.Core.Logic.{_≢_}
 use mathlib.Core.Option.{Option, none, some}
-use mathlib.Core.Bool.{Bool, true, false, not}
+use mathlib.Core.Bool.{Bool, true, false, not, _&&_}
 use mathlib.Core.List.{List, [], _∷_, _++_, map}
 use Prim.Native.Nat.{ℕ, _+_, _-_, _≤_, _<_}
 use native.Mathlib.Omega.{arith}
-use lib.Dec.{T}
+use lib.Dec.{ltb, eqb}
 use lib.ListN.{length}
 use borrow.Author.Tests.{eq-eqb, ne-eqb, not-true, not-false}
-use Rattle.lists.specs.Tests.{upFrom, keep}
+use Rattle.lists.specs.Tests.{upFrom, keep, consIf}
 use Rattle.lists.proofs.LoopLaws.{gives}
-use Rattle.lists.proofs.RangeLaws.{keep-range, keep-skip, keep-first, keep-end, keep-every}
-use Rattle.net.specs.Net.{Arc, Net, everyArc}
+use Rattle.lists.proofs.RangeLaws.{keep-range, keep-skip, keep-first, keep-end}
+use Rattle.net.specs.Net.{Arc, Net, arc}
 use Rattle.net.specs.Route.{endOf, lengthOf, leaves, leaving, precedes}
 use Rattle.net.specs.Search.{candidates, next}
-use Rattle.net.proofs.Chains.{leaves-e}
-use Rattle.table.specs.Table.{records, arcsOf, netOf}
+use Rattle.table.specs.Table.{arcsOf, isOpen, netOf}
 use Rattle.table.specs.Fault.{tableFault, good}
 use Rattle.table.specs.Run.{runStart, nextArc}
 use Rattle.table.proofs.FaultLaws.{good-size}
 use Rattle.table.proofs.NetLaws.{arcs-length}
 use Rattle.table.proofs.RunLaws.{run-le, run-mono, leaves-run, next-ge, next-le, next-passes, next-skips}
+use Rattle.closures.specs.Closed.{nextOpen}
+use Rattle.closures.proofs.ClosedLaws.{next-open}
 use Rattle.labels.specs.Field.{noNumber}
 use Rattle.labels.specs.Chain.{chainAt, chainsIn}
 use Rattle.search_ask.specs.declared.Ask.{Ask}
 use Rattle.search_ask.specs.declared.Candidate.{Candidate}
-use Rattle.search_ask.specs.Ask.{PointsIn, netFor, endIn, chainOf, candidateIn, lastIn}
+use Rattle.search_ask.specs.Ask.{Points, Among, chainOf, candidateIn, lastIn}
 use Rattle.search_next.specs.Scan.{sooner, look, scan}
 use Rattle.search_next.proofs.ScanLaws.{scan-append, scan-next, candidates-done, candidates-step}
 
@@ -50,16 +51,12 @@ module _ (labels : List ℕ) (c : Candidate) where
   unfolding lastIn
   last-some ne = rw (ne-eqb (c .arc) noNumber ne)
 
--- an arc that leaves a node is one of the table's
-pub leaves-below : (nodes : ℕ) (t : List ℕ) (v a : ℕ) → T (leaves (netOf nodes t) v a) → a < records t
-leaves-below nodes t v a h = omega (arith, leaves-e (netOf nodes t) v a h .is-arc, arcs-length t)
-
--- a candidate whose arc leaves its label's end
-pub candidate-new : (ask : Ask) (t b : List ℕ) (n : ℕ) (c : Candidate) → tableFault (ask .nodes) t ≡ good → c .label < n
-    → T (leaves (netFor ask t) (endIn ask t b (c .label)) (c .arc)) → (candidateIn b c ≡ some (chainOf b c)) × PointsIn ask t b n c
-candidate-new ask t b n c ok h k = (
-  candidate-some b c (λ e. omega (arith, leaves-below (ask .nodes) t _ (c .arc) k, good-size (ask .nodes) t ok .3)),
-  record { label-below = λ e. h; leaves-end = λ e. k },
+-- a candidate of the search's own
+pub candidate-new : (ask : Ask) (t b : List ℕ) (n : ℕ) (c : Candidate) → tableFault (ask .nodes) t ≡ good → Among t n c
+    → (candidateIn b c ≡ some (chainOf b c)) × Points (arcsOf t) n c
+candidate-new ask t b n c ok k = (
+  candidate-some b c (λ e. omega (arith, k .arc-below, good-size (ask .nodes) t ok .3)),
+  record { label-below = λ e. k .label-below; arc-below = λ e. omega (arith, k .arc-below, arcs-length t) },
 )
 
 -- ---- a look at c
@@ -91,13 +88,35 @@ module _ (arcs : List Arc) (last c : List ℕ) (best : Option (List ℕ)) where
 
 -- ---- a scan along a run that ends at e
 
-pub leaving-run : (nodes : ℕ) (t : List ℕ) → tableFault nodes t ≡ good → (v : ℕ)
-    → leaving (netOf nodes t) v ≡ keep everyArc (upFrom (runStart t v) (runStart t (v + 1) - runStart t v))
+-- of the arcs that leave a node, those that are open
+open-leaves : (nodes : ℕ) (t closed : List ℕ) (v a : ℕ) → leaves (netOf nodes t closed) v a ≡ (isOpen closed a && leaves (netOf nodes t []) v a)
+unfolding leaves
+open-leaves nodes t closed v a = go (ltb a (length (arcsOf t))) (isOpen closed a)
+  where
+    go : (x y : Bool) → (x && y && eqb (arc (arcsOf t) a .from) v) ≡ (y && (x && true && eqb (arc (arcsOf t) a .from) v))
+    go true true = refl
+    go true false = refl
+    go false true = refl
+    go false false = refl
+
+keep-and : (p q r : ℕ → Bool) → ((a : ℕ) → r a ≡ (p a && q a)) → (l : List ℕ) → keep r l ≡ keep p (keep q l)
+unfolding keep consIf
+keep-and p q r h [] = refl
+keep-and p q r h (x ∷ l) = rw (h x) (go (p x) (q x) refl refl (keep-and p q r h l))
+  where
+    go : (y z : Bool) → p x ≡ y → q x ≡ z → keep r l ≡ keep p (keep q l) → consIf (y && z) x (keep r l) ≡ keep p (consIf z x (keep q l))
+    go true true e f k = rw e (ap (λ m. x ∷ m) k)
+    go false true e f k = rw e k
+    go true false e f k = k
+    go false false e f k = k
+
+pub leaving-run : (nodes : ℕ) (t closed : List ℕ) → tableFault nodes t ≡ good → (v : ℕ)
+    → leaving (netOf nodes t closed) v ≡ keep (isOpen closed) (upFrom (runStart t v) (runStart t (v + 1) - runStart t v))
 unfolding leaving
-leaving-run nodes t ok v =
-    keep-range (leaves (netOf nodes t) v) (runStart t v) (runStart t (v + 1)) (length (arcsOf t)) (leaves-run nodes t ok v) (run-mono t v)
-    (omega (arith, run-le t (v + 1), arcs-length t))
-    ∙ sym (keep-every (runStart t v) (runStart t (v + 1) - runStart t v) everyArc (λ a. refl))
+leaving-run nodes t closed ok v =
+    keep-and (isOpen closed) (leaves (netOf nodes t []) v) (leaves (netOf nodes t closed) v) (open-leaves nodes t closed v) (upFrom 0 (length (arcsOf t)))
+    ∙ ap (keep (isOpen closed)) (keep-range (leaves (netOf nodes t []) v) (runStart t v) (runStart t (v + 1)) (length (arcsOf t)) (leaves-run nodes t ok v) (run-mono t v)
+    (omega (arith, run-le t (v + 1), arcs-length t)))
 
 -- the candidates of the chain p that are left from place a on
 abbrev pub ahead : (ℕ → Bool) → List ℕ → ℕ → ℕ → List (List ℕ)
@@ -108,16 +127,17 @@ ahead-next : (usable : ℕ → Bool) (p : List ℕ) (a e : ℕ) → a ≤ e → 
 ahead-next usable p a e h =
     ap (map (λ a. p ++ (a ∷ []))) (sym (keep-skip usable a (nextArc usable a e) e (next-ge usable a e h) (next-le usable a e h) (next-skips usable a e h)))
 
-pub ahead-all : (nodes : ℕ) (t p : List ℕ) (v w lo e a : ℕ) → tableFault nodes t ≡ good → v ≡ w
-    → lo ≡ runStart t v → e ≡ runStart t (v + 1) → a ≡ nextArc everyArc lo e
-    → ahead everyArc p a e ≡ map (λ a. p ++ (a ∷ [])) (leaving (netOf nodes t) w)
-ahead-all nodes t p v w lo e a ok ev el ee ea =
-    ap (λ x. ahead everyArc p x e) ea
-    ∙ ahead-next everyArc p lo e (omega (arith, run-mono t v))
-    ∙ rw (el, ee, ← ev) (ap (map (λ a. p ++ (a ∷ []))) (sym (leaving-run nodes t ok v)))
+pub ahead-all : (nodes : ℕ) (t closed p : List ℕ) (v w lo e a : ℕ) → tableFault nodes t ≡ good → v ≡ w
+    → lo ≡ runStart t v → e ≡ runStart t (v + 1) → a ≡ nextOpen closed lo e
+    → ahead (isOpen closed) p a e ≡ map (λ a. p ++ (a ∷ [])) (leaving (netOf nodes t closed) w)
+ahead-all nodes t closed p v w lo e a ok ev el ee ea =
+    let h : lo ≤ e = omega (arith, run-mono t v) in
+    ap (λ x. ahead (isOpen closed) p x e) (ea ∙ next-open closed lo e h)
+    ∙ ahead-next (isOpen closed) p lo e h
+    ∙ rw (el, ee, ← ev) (ap (map (λ a. p ++ (a ∷ []))) (sym (leaving-run nodes t closed ok v)))
 
-pub next-within : (usable : ℕ → Bool) (lo e a : ℕ) → lo ≤ e → a ≡ nextArc usable lo e → (lo ≤ a) × (a ≤ e) × (a < e → usable a ≡ true)
-next-within usable lo e a h q = rw q (next-ge usable lo e h, next-le usable lo e h, next-passes usable lo e h)
+pub next-within : (closed : List ℕ) (lo e a : ℕ) → lo ≤ e → a ≡ nextOpen closed lo e → (lo ≤ a) × (a ≤ e) × (a < e → isOpen closed a ≡ true)
+next-within closed lo e a h q = rw (q ∙ next-open closed lo e h) (next-ge (isOpen closed) lo e h, next-le (isOpen closed) lo e h, next-passes (isOpen closed) lo e h)
 
 -- `all` is what looking at those that are left gives
 module _ (arcs : List Arc) (last : List ℕ) (best : Option (List ℕ)) (usable : ℕ → Bool) (p : List ℕ) (a e : ℕ) {all : Option (List ℕ)} where

@@ -11,7 +11,7 @@ use Rattle.table.specs.Table.{arcsOf}
 use Rattle.labels.specs.Chain.{chainAt, chainsIn}
 use Rattle.search_ask.specs.declared.Ask.{Ask}
 use Rattle.search_ask.specs.declared.Candidate.{Candidate}
-use Rattle.search_ask.specs.Ask.{Searching, PointsIn, netFor, endIn, candidateIn, lastIn}
+use Rattle.search_ask.specs.Ask.{Searching, Points, netFor, endIn, candidateIn, lastIn}
 use Rattle.search_next.specs.declared.Seen.{Seen}
 
 -- Of the best so far and c, the one that comes first.
@@ -30,24 +30,24 @@ unfolding look
 scan arcs last best [] = best
 scan arcs last best (c ∷ cs) = scan arcs last (look arcs last best c) cs
 
--- The candidates of a label: its chain with each arc that leaves its end.
-abbrev pub extended : Ask → List ℕ → List ℕ → ℕ → List (List ℕ)
-extended ask table labels label = map (λ a. chainAt labels label ++ (a ∷ [])) (leaving (netFor ask table) (endIn ask table labels label))
+-- The candidates of a label: its chain with each open arc that leaves its end.
+abbrev pub extended : Ask → List ℕ → List ℕ → List ℕ → ℕ → List (List ℕ)
+extended ask table closed labels label = map (λ a. chainAt labels label ++ (a ∷ [])) (leaving (netFor ask table closed) (endIn ask table labels label))
 
 -- The chain last looked at.
 abbrev pub lastOf : List ℕ → Seen → List ℕ
 lastOf labels seen = lastIn labels (seen .last)
 
 -- The first candidate after it.
-abbrev pub nextIn : Ask → List ℕ → List ℕ → Seen → Option (List ℕ)
-nextIn ask table labels seen = next (lengthOf (arcsOf table)) (netFor ask table) (ask .s) (chainsIn labels (seen .n)) (lastOf labels seen)
+abbrev pub nextIn : Ask → List ℕ → List ℕ → List ℕ → Seen → Option (List ℕ)
+nextIn ask table closed labels seen = next (lengthOf (arcsOf table)) (netFor ask table closed) (ask .s) (chainsIn labels (seen .n)) (lastOf labels seen)
 
 -- A search goes on, and has looked at candidates up to one of its own.
 pub record Seeing (ask : Ask) (table labels : List ℕ) (seen : Seen) : Type 0 where
   pub searching : Searching ask table labels (seen .n)
-  pub points : PointsIn ask table labels (seen .n) (seen .last)
+  pub points : Points (arcsOf table) (seen .n) (seen .last)
 
 -- What was found: the candidate, or none, that is due.
 pub record Found (ask : Ask) (table labels : List ℕ) (seen : Seen) (c : Candidate) (due : Option (List ℕ)) : Type 0 where
   pub is : candidateIn labels c ≡ due
-  pub points : PointsIn ask table labels (seen .n) c
+  pub points : Points (arcsOf table) (seen .n) c

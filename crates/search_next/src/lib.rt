@@ -4,10 +4,8 @@ use search_ask::Ask;
 use search_ask::Candidate;
 ghost use mathlib.Core.Path.{_≡_};
 ghost use Prim.Native.Nat.{_<_};
-ghost use lib.Dec.{T};
-ghost use Rattle.net.specs.Route.{leaves};
 ghost use Rattle.table.specs.Table.{arcsOf};
-ghost use Rattle.search_ask.specs.Ask.{Searching, PointsIn, netFor, endIn, chainOf, candidateIn};
+ghost use Rattle.search_ask.specs.Ask.{Searching, Points, Among, chainOf, candidateIn};
 ghost use Rattle.search_next.specs.Scan.{look, scan, lastOf, extended, nextIn};
 ghost use Rattle.search_next.specs.Scan.{Seeing, Found};
 
@@ -27,9 +25,7 @@ fn sooner(
     c: Candidate,
 ) -> Candidate
     requires { ⌜ (Seeing ask (now table) (now labels) seen)
-        × (PointsIn ask (now table) (now labels) (seen .n) best) × (c .label < seen .n)
-        × T (leaves (netFor ask (now table))
-        (endIn ask (now table) (now labels) (c .label)) (c .arc)) ⌝ }
+        × (Points (arcsOf (now table)) (seen .n) best) × (Among (now table) (seen .n) c) ⌝ }
     ensures { λ r. ⌜ Found ask (now (table .entry)) (now (labels .entry)) seen r
         (look (arcsOf (now (table .entry))) (lastOf (now (labels .entry)) seen)
         (candidateIn (now (labels .entry)) best) (chainOf (now (labels .entry)) c)) ⌝ }
@@ -49,9 +45,10 @@ fn sooner(
     c
 }
 
-// The same over all arcs that leave the end of a label.
+// The same over all open arcs that leave the end of a label.
 fn scan_label(
     table: &[u8],
+    closed: &[u8],
     ask: Ask,
     labels: &[u8],
     seen: Seen,
@@ -59,33 +56,33 @@ fn scan_label(
     label: usize,
 ) -> Candidate
     requires { ⌜ (Seeing ask (now table) (now labels) seen)
-        × (PointsIn ask (now table) (now labels) (seen .n) first) × (label < seen .n) ⌝ }
+        × (Points (arcsOf (now table)) (seen .n) first) × (label < seen .n) ⌝ }
     ensures { λ r. ⌜ Found ask (now (table .entry)) (now (labels .entry)) seen r
         (scan (arcsOf (now (table .entry))) (lastOf (now (labels .entry)) seen)
         (candidateIn (now (labels .entry)) first)
-        (extended ask (now (table .entry)) (now (labels .entry)) label)) ⌝ }
+        (extended ask (now (table .entry)) (now (closed .entry)) (now (labels .entry)) label)) ⌝ }
 {
     let nodes = ask.nodes;
     let v = labels::field::end(labels, label);
     let end = table::run::run_start(table, nodes, v + 1);
     let mut best = first;
-    let mut arc = table::run::next_arc(table::run::run_start(table, nodes, v), end);
+    let mut arc = closures::next_arc(closed, table::run::run_start(table, nodes, v), end);
     while arc < end {
         let c = Candidate {
             label: label,
             arc: arc,
         };
         best = sooner(table, ask, labels, seen, best, c);
-        arc = table::run::next_arc(arc + 1, end);
+        arc = closures::next_arc(closed, arc + 1, end);
     }
     best
 }
 
 // The first candidate of the labels after the one last looked at.
-pub fn next(table: &[u8], ask: Ask, labels: &[u8], seen: Seen) -> Candidate
+pub fn next(table: &[u8], closed: &[u8], ask: Ask, labels: &[u8], seen: Seen) -> Candidate
     requires { ⌜ Seeing ask (now table) (now labels) seen ⌝ }
     ensures { λ r. ⌜ Found ask (now (table .entry)) (now (labels .entry)) seen r
-        (nextIn ask (now (table .entry)) (now (labels .entry)) seen) ⌝ }
+        (nextIn ask (now (table .entry)) (now (closed .entry)) (now (labels .entry)) seen) ⌝ }
 {
     let n = seen.n;
     let mut best = Candidate {
@@ -94,7 +91,7 @@ pub fn next(table: &[u8], ask: Ask, labels: &[u8], seen: Seen) -> Candidate
     };
     let mut i = 0;
     while i < n {
-        best = scan_label(table, ask, labels, seen, best, i);
+        best = scan_label(table, closed, ask, labels, seen, best, i);
         i += 1;
     }
     best

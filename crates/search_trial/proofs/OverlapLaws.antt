@@ -61,11 +61,11 @@ module _ (nodes : ℕ) (t l : List ℕ) (a : ℕ) (few : records t ≤ mostArcs)
   on-route : has a (routeIn l) ≡ has a l
   on-route = has-route a l (λ e. omega arith)
 
-  pub shared-some : has a l ≡ true → overlap (netOf nodes t) (a ∷ []) (routeIn l) ≡ lenAt t a
+  pub shared-some : has a l ≡ true → overlap (netOf nodes t []) (a ∷ []) (routeIn l) ≡ lenAt t a
   unfolding overlap lengthOf keep consIf
   shared-some e = rw (on-route ∙ e, arc-is t a below) (omega arith)
 
-  pub shared-none : has a l ≡ false → overlap (netOf nodes t) (a ∷ []) (routeIn l) ≡ 0
+  pub shared-none : has a l ≡ false → overlap (netOf nodes t []) (a ∷ []) (routeIn l) ≡ 0
   unfolding overlap lengthOf keep consIf
   shared-none e = rw (on-route ∙ e)
 

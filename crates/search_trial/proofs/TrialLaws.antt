@@ -1,6 +1,6 @@
 -- The tests by numbers are the theory's. Each goes over indices where the theory goes over a list, and at each index they agree: the overlaps of the candidate
 -- and those that a label holds are those of the theory, and so are the lengths.
-use mathlib.Core.Path.{_≡_, sym, ap, ap₂, _∙_}
+use mathlib.Core.Path.{_≡_, refl, sym, ap, ap₂, _∙_}
 use mathlib.Core.Bool.{Bool, true, false, not, _&&_}
 use mathlib.Core.List.{List, []}
 use mathlib.Core.Logic.{⊎-elim}
@@ -87,8 +87,16 @@ module _ (q : Query) (earlier : List (List ℕ)) (c own : List ℕ) (os : own �
 
 -- ---- on trial, as the code has it
 
+-- which roads are closed does not show in an overlap
+pub overlaps-open : (ask : Ask) (table c d : List ℕ) (earlier : List (List ℕ)) (p : List ℕ) → overlapsOf (netFor ask table c) earlier p ≡ overlapsOf (netFor ask table d) earlier p
+unfolding overlapsOf overlap
+overlaps-open ask table c d earlier p = refl
+
+pub holding-open : (ask : Ask) (table c d : List ℕ) {earlier : List (List ℕ)} {l : List ℕ} {n : ℕ} → Holding (netFor ask table c) earlier l n → Holding (netFor ask table d) earlier l n
+holding-open ask table c d {earlier} {l} h = record { few = h .few; overlaps = λ i b. h .overlaps i b ∙ overlaps-open ask table c d earlier (chainAt l i) }
+
 module _ {ask : Ask} {table area lens labels : List ℕ} {n : ℕ} {c : Candidate} (t : Trying ask table area labels (record { r = length lens; n = n; c = c }))
-    (e : Earlier (arcsOf table) (width ask) (length lens) area lens) (own : List ℕ) (os : own ≡ overlapsOf (netFor ask table) (earlierOf ask area lens) (chainOf labels c)) where
+    (e : Earlier (arcsOf table) (width ask) (length lens) area lens) (own : List ℕ) (os : own ≡ overlapsOf (netFor ask table []) (earlierOf ask area lens) (chainOf labels c)) where
   lens-at : (j : ℕ) → j < length (earlierOf ask area lens) → getD lens j 0 ≡ lengthOf (arcsOf table) (getD (earlierOf ask area lens) j [])
   lens-at j h =
       let b : j < length lens = omega (arith, length-earlierIn (width ask) (length lens) area) in
@@ -97,7 +105,7 @@ module _ {ask : Ask} {table area lens labels : List ℕ} {n : ℕ} {c : Candidat
   pub measured : Measured ask lens own
   measured =
       let ok = t .searching .accepted in
-      let many : length own ≡ length lens = ap length os ∙ length-overlapsOf (netFor ask table) (earlierOf ask area lens) (chainOf labels c) ∙ length-earlierIn (width ask) (length lens) area in
+      let many : length own ≡ length lens = ap length os ∙ length-overlapsOf (netFor ask table []) (earlierOf ask area lens) (chainOf labels c) ∙ length-earlierIn (width ask) (length lens) area in
       record {
         a-most = omega (arith, ok .a-below, ok .b-most);
         b-most = ok .b-most;
@@ -108,12 +116,12 @@ module _ {ask : Ask} {table area lens labels : List ℕ} {n : ℕ} {c : Candidat
             omega (
               arith,
               ap (λ l. getD l j 0) os,
-              overlaps-most (netFor ask table) (earlierOf ask area lens) (chainOf labels c) j,
-              candidate-most (netFor ask table) (t .searching .standing) (lengths-most ok) (c .label) (c .arc) (t .among .label-below),
+              overlaps-most (netFor ask table []) (earlierOf ask area lens) (chainOf labels c) j,
+              candidate-most (netFor ask table []) (t .searching .standing) (lengths-most ok) (c .label) (c .arc) (t .among .label-below),
             );
       }
 
-  pub passes-here : passesAt ask lens labels n (toAt table (c .arc)) own ≡ passes (queryFor ask table labels) (earlierOf ask area lens) (chainsIn labels n) (chainOf labels c)
-  passes-here =
-      passes-is (queryFor ask table labels) (earlierOf ask area lens) (chainOf labels c) own os (t .holding) lens lens-at (t .searching .standing) (toAt table (c .arc))
+  pub passes-here : (closed : List ℕ) → passesAt ask lens labels n (toAt table (c .arc)) own ≡ passes (queryFor ask table closed labels) (earlierOf ask area lens) (chainsIn labels n) (chainOf labels c)
+  passes-here closed =
+      passes-is (queryFor ask table closed labels) (earlierOf ask area lens) (chainOf labels c) own (os ∙ overlaps-open ask table [] closed (earlierOf ask area lens) (chainOf labels c)) (holding-open ask table [] closed (t .holding)) lens lens-at (t .searching .standing) (toAt table (c .arc))
       (end-is table (ask .s) (chainAt labels (c .label)) (c .arc) (t .among .arc-below))

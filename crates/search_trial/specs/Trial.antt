@@ -1,6 +1,6 @@
 -- A candidate on trial, and the two tests on it by numbers: its overlaps with the earlier answers, their lengths, and what the labels hold.
 use mathlib.Core.Bool.{Bool, not, _&&_}
-use mathlib.Core.List.{List}
+use mathlib.Core.List.{List, []}
 use Prim.Native.Nat.{ℕ, _+_, _*_, _≤_, _<_}
 use lib.Dec.{leb, eqb}
 use lib.ListN.{length, getD}
@@ -13,10 +13,11 @@ use Rattle.search_ask.specs.Ask.{Searching, Among, netFor, width}
 use Rattle.search_ask.specs.Earlier.{earlierIn}
 use Rattle.search_trial.specs.declared.Trial.{Trial}
 
--- The search goes on, its labels hold their overlaps, the candidate is one of its own, and the earlier answers have their slots.
+-- The search goes on, its labels hold their overlaps, the candidate is one of its own, and the earlier answers have their slots. Which roads are closed does
+-- not show in an overlap.
 pub record Trying (ask : Ask) (table area labels : List ℕ) (x : Trial) : Type 0 where
   pub searching : Searching ask table labels (x .n)
-  pub holding : Holding (netFor ask table) (earlierIn (width ask) (x .r) area) labels (x .n)
+  pub holding : Holding (netFor ask table []) (earlierIn (width ask) (x .r) area) labels (x .n)
   pub among : Among table (x .n) (x .c)
   pub slots : x .r * width ask ≤ length area
 

@@ -30,7 +30,7 @@ fn stands_on(slot: &[u32], arc: u32) -> bool
 // What an arc adds to the overlap with the route in the slot.
 fn shared(table: &[u8], ask: Ask, slot: &[u32], arc: usize) -> u64
     requires { ⌜ (Accepted ask (now table)) × (arc < records (now table)) ⌝ }
-    ensures { λ r. ⌜ r ≡ overlap (netFor ask (now (table .entry))) (arc ∷ [])
+    ensures { λ r. ⌜ r ≡ overlap (netFor ask (now (table .entry)) []) (arc ∷ [])
         (routeIn (now (slot .entry))) ⌝ }
 {
     if stands_on(slot, arc as u32) {
@@ -45,7 +45,7 @@ pub fn of_candidate(table: &[u8], ask: Ask, area: &[u32], labels: &[u8], x: Tria
     requires { ⌜ (Trying ask (now table) (now area) (now labels) x)
         × (x .r ≤ length (now own)) ⌝ }
     ensures { λ y. ⌜ (length (now (own .exit)) ≡ length (now (own .entry)))
-        × (take (x .r) (now (own .exit)) ≡ overlapsOf (netFor ask (now (table .entry)))
+        × (take (x .r) (now (own .exit)) ≡ overlapsOf (netFor ask (now (table .entry)) [])
         (earlierIn (width ask) (x .r) (now (area .entry)))
         (chainOf (now (labels .entry)) (x .c))) ⌝ }
 {

@@ -32,8 +32,8 @@ at-every P t past each a =
     (order (records t) a)
 
 module _ (nodes : ℕ) (t : List ℕ) (ok : tableFault nodes t ≡ good) where
-  pub table-sound : Sound (netOf nodes t)
-  table-sound =
+  pub table-sound : (closed : List ℕ) → Sound (netOf nodes t closed)
+  table-sound closed =
       record {
         to-below = at-every (λ x. x .to < nodes) t (good-size nodes t ok .0) (λ a h. all-good nodes t ok a h .end);
         positive = at-every (λ x. 0 < x .len) t (omega arith) (λ a h. all-good nodes t ok a h .least);

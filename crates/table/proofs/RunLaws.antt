@@ -80,15 +80,15 @@ module _ (nodes : ℕ) (t : List ℕ) (ok : tableFault nodes t ≡ good) where
   pub run-has : (v i : ℕ) → i < records t → fromAt t i ≡ v → (runStart t v ≤ i) × (i < runStart t (v + 1))
   run-has v i h e = (run-to t v i (omega arith), run-past (v + 1) i h (omega arith))
 
-  pub leaves-run : (v a : ℕ) → T (leaves (netOf nodes t) v a) ↔ ((runStart t v ≤ a) × (a < runStart t (v + 1)))
-  leaves-run v a = (λ h. inside (leaves-e (netOf nodes t) v a h), λ w. leaves-i (netOf nodes t) v a (outside (w .0) (w .1)))
+  pub leaves-run : (v a : ℕ) → T (leaves (netOf nodes t []) v a) ↔ ((runStart t v ≤ a) × (a < runStart t (v + 1)))
+  leaves-run v a = (λ h. inside (leaves-e (netOf nodes t []) v a h), λ w. leaves-i (netOf nodes t []) v a (outside (w .0) (w .1)))
     where
-      inside : Leaves (netOf nodes t) v a → (runStart t v ≤ a) × (a < runStart t (v + 1))
+      inside : Leaves (netOf nodes t []) v a → (runStart t v ≤ a) × (a < runStart t (v + 1))
       inside l =
           let h : a < records t = omega (arith, arcs-length t, l .is-arc) in
           run-has v a h (rw (arc-is t a h) at (l .starts))
 
-      outside : runStart t v ≤ a → a < runStart t (v + 1) → Leaves (netOf nodes t) v a
+      outside : runStart t v ≤ a → a < runStart t (v + 1) → Leaves (netOf nodes t []) v a
       outside p q =
           let h : a < records t = omega (arith, run-le t (v + 1)) in
           record { is-arc = omega (arith, arcs-length t); is-usable = tt; starts = rw (arc-is t a h) (run-is v a p q) }
@@ -131,16 +131,6 @@ module _ (nodes : ℕ) (t : List ℕ) (v : ℕ) where
   arcs-past h = rw (le-ltb v nodes h) (⊎-elim (λ e. rw e) (λ e. rw e) (cases (eqb (tableFault nodes t .outcome) 0)))
 
 -- ---- the next arc of a run
-
-first-here : (p : ℕ → Bool) (n i : ℕ) → p i ≡ true → firstAt p n i ≡ i
-unfolding firstAt
-first-here p zero i h = refl
-first-here p (suc n) i h = rw h
-
--- an arc that is usable comes next itself
-pub next-here : (usable : ℕ → Bool) (a e : ℕ) → usable a ≡ true → nextArc usable a e ≡ a
-unfolding nextArc
-next-here usable a e h = first-here usable (e - a) a h
 
 module _ (usable : ℕ → Bool) (a e : ℕ) (h : a ≤ e) where
   pub next-ge : a ≤ nextArc usable a e

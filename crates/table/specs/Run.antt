@@ -24,7 +24,7 @@ unfoldable pub arcsFrom : ℕ → List ℕ → ℕ → List ℕ
 unfolding tableFault runOf
 arcsFrom nodes t v = cond (eqb (tableFault nodes t .outcome) 0 && ltb v nodes) (runOf t v) []
 
--- The arc that comes next from place a of a run that ends at e: the first that is usable, or e.
+-- "the next arc from a place in a run then means the next open one" (02.3): from place a of a run that ends at e, the first that is usable, or e.
 unfoldable pub nextArc : (ℕ → Bool) → ℕ → ℕ → ℕ
 unfolding firstAt
 nextArc usable a e = firstAt usable (e - a) a

@@ -1,12 +1,12 @@
 -- The road table of document 01: from bytes to arcs.
-use mathlib.Core.Bool.{cond}
+use mathlib.Core.Bool.{Bool, cond}
 use mathlib.Core.List.{List, [], _∷_, _++_, flatMap}
 use Prim.Native.Nat.{ℕ, _+_, _*_, _/_}
-use lib.Dec.{ltb}
-use lib.ListN.{length}
+use lib.Dec.{ltb, eqb}
+use lib.ListN.{length, getD}
 use Rattle.lists.specs.Index.{tab}
 use Rattle.words.specs.Number.{num, put, bytesOf}
-use Rattle.net.specs.Net.{Arc, Net, plain}
+use Rattle.net.specs.Net.{Arc, Net, plain, only}
 
 -- "Arc records are 16 bytes each, with no header"
 abbrev pub recordBytes : ℕ
@@ -35,9 +35,13 @@ arcAt t i = record { from = fromAt t i; to = toAt t i; len = lenAt t i }
 unfoldable pub arcsOf : List ℕ → List Arc
 arcsOf t = tab (records t) (arcAt t)
 
--- "The number of nodes is given beside the table."
-abbrev pub netOf : ℕ → List ℕ → Net
-netOf nodes t = plain nodes (arcsOf t)
+-- "one byte for each arc, 0 open and 1 closed" (02.3). Past the bytes an arc is open: where none are lent none is closed.
+abbrev pub isOpen : List ℕ → ℕ → Bool
+isOpen closed a = eqb (getD closed a 0) 0
+
+-- "The number of nodes is given beside the table." Open arcs may be used.
+abbrev pub netOf : ℕ → List ℕ → List ℕ → Net
+netOf nodes t closed = only (isOpen closed) (plain nodes (arcsOf t))
 
 -- The record of an arc, and the table of arcs.
 unfoldable pub recordOf : Arc → List ℕ

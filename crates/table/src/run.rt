@@ -3,9 +3,8 @@ use crate::arc;
 use crate::fault;
 ghost use mathlib.Core.Path.{_≡_};
 ghost use Prim.Native.Nat.{_≤_, _<_};
-ghost use Rattle.net.specs.Net.{everyArc};
 ghost use Rattle.table.specs.Fault.{tableFault, good};
-ghost use Rattle.table.specs.Run.{runStart, runOf, arcsFrom, nextArc};
+ghost use Rattle.table.specs.Run.{runStart, runOf, arcsFrom};
 
 // Where the run of node v starts in a good table, in as many turns as the number of records has
 // bits; `nodes` is the table's node count.
@@ -49,13 +48,4 @@ pub fn arcs_from(table: &[u8], nodes: u32, v: u32) -> &[u8]
         return &table[0..0];
     }
     run_of(table, nodes, v)
-}
-
-// The arc that comes next from place `arc` of a run that ends at `end`, or `end`. No road is
-// closed, so each comes next.
-pub fn next_arc(arc: usize, end: usize) -> usize
-    requires { ⌜ arc ≤ end ⌝ }
-    ensures { λ r. ⌜ r ≡ nextArc everyArc arc end ⌝ }
-{
-    arc
 }

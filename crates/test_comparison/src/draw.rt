@@ -1,9 +1,32 @@
-// Queries and tables from a generator: its state is cell 0 of `seed`, and cell 1 counts the
-// thresholds that come in turn.
+// Queries and tables. A number of a case is settled by the number of the case and of the draw.
+use crate::cells;
+
+// The draws of a case: those of the query, and from FIRST on those of each arc.
+const DRAWS: usize = 256;
+
+const FIRST: usize = 32;
+
+const OF_ARC: usize = 16;
+
+// The manners in which closures are lent: none; all open; from 2 to 6, one arc closed in so many;
+// all arcs from one node closed; bytes of another number; one byte of another value.
+pub(crate) const ALL_OPEN: usize = 1;
+
+const ONE_NODE: usize = 7;
+
+const NUMBER: usize = 8;
+
+const VALUE: usize = 9;
 
 fn next(x: usize) -> usize {
     let y = x % 2147483648;
     (y * 1103515245 + 12345) % 2147483648
+}
+
+// The middle of the square: draws that only `next` parts would stand in a fixed relation.
+fn middle(x: usize) -> usize {
+    let y = x % 2147483648;
+    test_cells::mul(y, y) / 32768 % 2147483648
 }
 
 fn rest(x: usize, n: usize) -> usize {
@@ -11,233 +34,207 @@ fn rest(x: usize, n: usize) -> usize {
 }
 
 // A number below n.
-fn below(seed: &mut [usize], n: usize) -> usize {
-    let x = next(test_cells::get(seed, 0));
-    test_cells::put(seed, 0, x);
-    rest(x / 65536, n)
+fn below(case: usize, draw: usize, n: usize) -> usize {
+    let x = test_cells::place(case, DRAWS, draw);
+    rest(middle(next(middle(next(x)))) / 65536, n)
 }
 
 // One time in n.
-fn once_in(seed: &mut [usize], n: usize) -> bool {
-    below(seed, n) == 0
+fn once_in(case: usize, draw: usize, n: usize) -> bool {
+    below(case, draw, n) == 0
 }
 
-fn nodes(seed: &mut [usize]) -> usize {
-    if once_in(seed, 60) {
-        below(seed, 2)
-    } else {
-        test_cells::add(below(seed, 4), 3)
-    }
+fn nodes(case: usize) -> usize {
+    let few = below(case, 1, 2);
+    let more = test_cells::add(below(case, 1, 4), 3);
+    test_cells::pick(once_in(case, 0, 60), few, more)
 }
 
-fn records(seed: &mut [usize]) -> usize {
-    if once_in(seed, 20) {
-        below(seed, 6)
-    } else {
-        test_cells::add(below(seed, 7), 6)
-    }
+fn records(case: usize) -> usize {
+    let few = below(case, 3, 6);
+    let more = test_cells::add(below(case, 3, 7), 6);
+    test_cells::pick(once_in(case, 2, 20), few, more)
 }
 
-fn routes(seed: &mut [usize]) -> usize {
-    if once_in(seed, 2) {
-        return 8;
-    }
-    if once_in(seed, 40) {
-        test_cells::mul(below(seed, 2), 9)
-    } else {
-        test_cells::add(below(seed, 8), 1)
-    }
+fn routes(case: usize) -> usize {
+    let wrong = test_cells::mul(below(case, 5, 2), 9);
+    let any = test_cells::add(below(case, 5, 8), 1);
+    let drawn = test_cells::pick(once_in(case, 6, 40), wrong, any);
+    test_cells::pick(once_in(case, 4, 2), 8, drawn)
 }
 
-// The next of the thresholds 0/1000 to 999/1000, in turn.
-fn next_of_thousand(seed: &mut [usize]) -> usize {
-    let n = test_cells::get(seed, 1);
-    test_cells::put(seed, 1, test_cells::add(n, 1));
-    rest(n, 1000)
+// Does the case have the next of the thresholds 0/1000 to 999/1000, in turn?
+pub(crate) fn in_turn(case: usize) -> bool {
+    case % 3 == 0
 }
 
-fn denominator(seed: &mut [usize], in_turn: bool) -> usize {
-    if in_turn {
-        return 1000;
-    }
-    if once_in(seed, 60) {
-        return test_cells::mul(below(seed, 2), 1001);
-    }
-    if once_in(seed, 2) {
-        test_cells::add(below(seed, 5), 1)
-    } else {
-        test_cells::add(below(seed, 1000), 1)
-    }
+fn denominator(case: usize) -> usize {
+    let wrong = test_cells::mul(below(case, 9, 2), 1001);
+    let most = test_cells::pick(once_in(case, 8, 2), 5, 1000);
+    let any = test_cells::add(below(case, 9, most), 1);
+    let drawn = test_cells::pick(once_in(case, 7, 60), wrong, any);
+    test_cells::pick(in_turn(case), 1000, drawn)
 }
 
-fn numerator(seed: &mut [usize], in_turn: bool, b: usize) -> usize {
-    if in_turn {
-        return next_of_thousand(seed);
-    }
-    if once_in(seed, 60) {
-        return b;
-    }
-    if once_in(seed, 3) {
-        return test_cells::less_one(b);
-    }
-    below(seed, b)
+fn numerator(case: usize) -> usize {
+    let b = denominator(case);
+    let last = once_in(case, 11, 3);
+    let any = test_cells::pick(last, test_cells::less_one(b), below(case, 12, b));
+    let drawn = test_cells::pick(once_in(case, 10, 60), b, any);
+    test_cells::pick(in_turn(case), case / 3 % 1000, drawn)
 }
 
 // Ample room is 64 labels. 65 stands for as many as the query needs, 66 for one less.
-fn room(seed: &mut [usize]) -> usize {
-    let x = below(seed, 4);
-    if x < 3 {
-        test_cells::add(x, 64)
-    } else {
-        below(seed, 17)
-    }
+fn room(case: usize) -> usize {
+    let x = below(case, 13, 4);
+    test_cells::pick(x < 3, test_cells::add(x, 64), below(case, 14, 17))
 }
 
 // Another node than v, but for one time in 60.
-fn other(seed: &mut [usize], v: usize, n: usize) -> usize {
-    let x = below(seed, n);
-    if x != v {
-        return x;
-    }
-    if once_in(seed, 60) {
-        return x;
-    }
-    rest(test_cells::add(x, 1), n)
-}
-
-// Nodes, arcs, s and t.
-fn ends(seed: &mut [usize], head: &mut [usize]) {
-    let n = nodes(seed);
-    let s = below(seed, n);
-    test_cells::put(head, 0, n);
-    test_cells::put(head, 1, records(seed));
-    test_cells::put(head, 2, s);
-    test_cells::put(head, 3, other(seed, s, n));
-}
-
-// k, a, b and the room.
-fn limits(seed: &mut [usize], head: &mut [usize]) {
-    let in_turn = once_in(seed, 3);
-    let b = denominator(seed, in_turn);
-    test_cells::put(head, 4, routes(seed));
-    test_cells::put(head, 5, numerator(seed, in_turn, b));
-    test_cells::put(head, 6, b);
-    test_cells::put(head, 7, room(seed));
+fn other(case: usize, draw: usize, v: usize, n: usize) -> usize {
+    let x = below(case, draw, n);
+    let same = once_in(case, test_cells::add(draw, 1), 60);
+    test_cells::pick((x != v) | same, x, rest(test_cells::add(x, 1), n))
 }
 
 // Words of the area: those of the slots and some more, but one time in 60 one less.
-fn words(seed: &mut [usize], slots: usize) -> usize {
-    if once_in(seed, 60) {
-        test_cells::less_one(slots)
-    } else {
-        test_cells::add(slots, below(seed, 4))
-    }
+fn words(case: usize) -> usize {
+    let slots = test_cells::mul(routes(case), test_cells::less_one(nodes(case)));
+    let more = test_cells::add(slots, below(case, 16, 4));
+    test_cells::pick(once_in(case, 15, 60), test_cells::less_one(slots), more)
 }
 
 // Summaries: eight, but one time in eight as many as are wanted or one less.
-fn summaries(seed: &mut [usize], k: usize) -> usize {
-    if once_in(seed, 8) {
-        if once_in(seed, 6) {
-            test_cells::less_one(k)
-        } else {
-            k
-        }
-    } else {
-        8
-    }
+fn summaries(case: usize) -> usize {
+    let k = routes(case);
+    let few = test_cells::pick(once_in(case, 18, 6), test_cells::less_one(k), k);
+    test_cells::pick(once_in(case, 17, 8), few, 8)
 }
 
 // Table bytes past the last whole record.
-fn stray(seed: &mut [usize]) -> usize {
-    if once_in(seed, 200) {
-        test_cells::add(below(seed, 15), 1)
-    } else {
-        0
-    }
+fn odd_bytes(case: usize) -> usize {
+    let some = test_cells::add(below(case, 20, 15), 1);
+    test_cells::pick(once_in(case, 19, 200), some, 0)
 }
 
-// The lengths of the lent buffers.
-fn buffers(seed: &mut [usize], head: &mut [usize]) {
-    let k = test_cells::get(head, 4);
-    let slots = test_cells::place(k, test_cells::less_one(test_cells::get(head, 0)), 0);
-    test_cells::put(head, 8, words(seed, slots));
-    test_cells::put(head, 9, summaries(seed, k));
-    test_cells::put(head, 10, stray(seed));
-    test_cells::put(head, 11, below(seed, 96));
+fn manner(case: usize) -> usize {
+    let x = below(case, 21, 16);
+    test_cells::pick(x > VALUE, 0, x)
 }
 
-// Nodes, arcs, s, t, k, a, b, the room; words of the area, summaries, table bytes past the last
-// whole record, label bytes past the last whole label.
-fn query(seed: &mut [usize], head: &mut [usize]) {
-    ends(seed, head);
-    limits(seed, head);
-    buffers(seed, head);
+// How many closure bytes are lent beside the arcs: as many, or one more, one fewer or none.
+fn closure_bytes(case: usize) -> usize {
+    let manner = manner(case);
+    let arcs = records(case);
+    let x = below(case, 22, 3);
+    let fewer = test_cells::pick(x == 0, test_cells::less_one(arcs), 0);
+    let another = test_cells::pick(x == 1, test_cells::add(arcs, 1), fewer);
+    let bytes = test_cells::pick(manner == NUMBER, another, arcs);
+    test_cells::pick(manner == 0, 0, bytes)
 }
 
-fn length(seed: &mut [usize]) -> usize {
-    if once_in(seed, 200) {
-        return test_cells::mul(below(seed, 2), 1000001);
-    }
-    if once_in(seed, 40) {
-        return 1000000;
-    }
-    test_cells::add(below(seed, 4), 1)
+fn goal(case: usize) -> usize {
+    let n = nodes(case);
+    other(case, 24, below(case, 23, n), n)
 }
 
-// Bytes 12 to 15.
-fn zeros(seed: &mut [usize]) -> usize {
-    if once_in(seed, 300) {
-        test_cells::add(below(seed, 256), 1)
-    } else {
-        0
+// Cell i of the case, but for the arcs.
+fn asked(case: usize, i: usize) -> usize {
+    match i {
+        cells::NODES => nodes(case),
+        cells::ARC_COUNT => records(case),
+        cells::START => below(case, 23, nodes(case)),
+        cells::GOAL => goal(case),
+        cells::ROUTES => routes(case),
+        cells::THRESHOLD_A => numerator(case),
+        cells::THRESHOLD_B => denominator(case),
+        cells::ROOM => room(case),
+        cells::WORDS => words(case),
+        cells::SUMMARIES => summaries(case),
+        cells::ODD_BYTES => odd_bytes(case),
+        cells::CLOSURES => manner(case),
+        cells::CLOSURE_BYTES => closure_bytes(case),
+        cells::ODD_LABEL => below(case, 26, 96),
+        _ => 0,
     }
 }
 
 // The start node after `from`: the same one or the next.
-fn start(seed: &mut [usize], from: usize, n: usize) -> usize {
-    if once_in(seed, 150) {
-        return below(seed, n);
-    }
-    if once_in(seed, 2) {
-        return from;
-    }
-    if test_cells::add(from, 1) < n {
-        test_cells::add(from, 1)
-    } else {
-        from
+fn start(case: usize, draw: usize, from: usize) -> usize {
+    let n = nodes(case);
+    let up = test_cells::add(from, 1);
+    let stays = once_in(case, draw, 2) | (up >= n);
+    let any = below(case, test_cells::add(draw, 2), n);
+    let wild = once_in(case, test_cells::add(draw, 1), 150);
+    test_cells::pick(wild, any, test_cells::pick(stays, from, up))
+}
+
+fn end(case: usize, draw: usize, from: usize) -> usize {
+    let n = nodes(case);
+    let other = other(case, test_cells::add(draw, 4), from, n);
+    test_cells::pick(once_in(case, test_cells::add(draw, 3), 200), n, other)
+}
+
+fn length(case: usize, draw: usize) -> usize {
+    let any = test_cells::add(below(case, test_cells::add(draw, 6), 4), 1);
+    let most = once_in(case, test_cells::add(draw, 7), 40);
+    let wrong = test_cells::mul(below(case, test_cells::add(draw, 6), 2), 1000001);
+    let right = test_cells::pick(most, 1000000, any);
+    test_cells::pick(once_in(case, test_cells::add(draw, 8), 200), wrong, right)
+}
+
+// Bytes 12 to 15.
+fn zeros(case: usize, draw: usize) -> usize {
+    let some = test_cells::add(below(case, test_cells::add(draw, 10), 256), 1);
+    test_cells::pick(once_in(case, test_cells::add(draw, 9), 300), some, 0)
+}
+
+// The closure byte of arc i, which starts at `from`.
+fn closure(case: usize, i: usize, from: usize) -> usize {
+    let manner = manner(case);
+    let any = once_in(case, test_cells::place(i, OF_ARC, FIRST + 11), manner);
+    let leaves = from == below(case, 27, nodes(case));
+    let closed = test_cells::pick(manner == ONE_NODE, leaves as usize, any as usize);
+    let wrong = (manner == VALUE) & (i == below(case, 28, records(case)));
+    let byte = test_cells::pick(wrong, test_cells::add(below(case, 29, 254), 2), closed);
+    test_cells::pick(manner > ALL_OPEN, byte, 0)
+}
+
+// Number j of arc i, which starts at `from`.
+fn of_arc(case: usize, i: usize, j: usize, from: usize) -> usize {
+    let draw = test_cells::place(i, OF_ARC, FIRST);
+    match j {
+        0 => from,
+        1 => end(case, draw, from),
+        2 => length(case, draw),
+        3 => zeros(case, draw),
+        _ => closure(case, i, from),
     }
 }
 
-fn end(seed: &mut [usize], from: usize, n: usize) -> usize {
-    if once_in(seed, 200) {
-        return n;
+fn arcs(cells: &mut cells::Cells, case: usize) {
+    let count = test_cells::mul(records(case), cells::ARC);
+    let mut from = 0;
+    let mut closed = 0;
+    for c in 0..count {
+        let i = c / cells::ARC;
+        let j = c % cells::ARC;
+        let next = start(case, test_cells::place(i, OF_ARC, FIRST), from);
+        from = test_cells::pick(j == 0, next, from);
+        let number = of_arc(case, i, j, from);
+        let closes = (j == cells::CLOSED) & (number == 1);
+        closed = test_cells::add(closed, closes as usize);
+        cells::put(cells, test_cells::add(cells::ARCS, c), number);
     }
-    other(seed, from, n)
-}
-
-fn arc(seed: &mut [usize], n: usize, arcs: &mut [usize], i: usize) {
-    let before = if i == 0 {
-        0
-    } else {
-        test_cells::get(arcs, test_cells::place(i - 1, 4, 0))
-    };
-    let from = start(seed, before, n);
-    let at = test_cells::place(i, 4, 0);
-    test_cells::put(arcs, at, from);
-    test_cells::put(arcs, test_cells::add(at, 1), end(seed, from, n));
-    test_cells::put(arcs, test_cells::add(at, 2), length(seed));
-    test_cells::put(arcs, test_cells::add(at, 3), zeros(seed));
-}
-
-fn arcs(seed: &mut [usize], head: &[usize], arcs: &mut [usize]) {
-    let m = test_cells::get(head, 1);
-    for i in 0..m {
-        arc(seed, test_cells::get(head, 0), arcs, i);
-    }
+    cells::put(cells, cells::CLOSED_ARCS, closed);
 }
 
 // A query and its table.
-pub(crate) fn case(seed: &mut [usize], head: &mut [usize], to: &mut [usize]) {
-    query(seed, head);
-    arcs(seed, head, to);
+pub(crate) fn case(number: usize) -> cells::Cells {
+    let mut case = [0usize; cells::CELLS];
+    for i in 0..cells::CELLS {
+        case[i] = asked(number, i);
+    }
+    arcs(&mut case, number);
+    case
 }

@@ -1,46 +1,84 @@
 // The library against the lister, on tables and queries from a fixed generator and on damaged
 // texts: how many there were, how many agreed, how often each outcome occurred, and the first
 // difference in full.
-mod agree;
-mod case;
+mod cells;
 mod draw;
 mod library;
+mod lister;
 mod report;
 mod texts;
 
 const CASES: usize = 6000;
 
+// The tally: cells 0 to 15 count the outcomes, those after REFUSED the rounds refused for room.
+const OUTCOMES: usize = 16;
+
+const REFUSED: usize = 15;
+
+const DIFFERENT: usize = 31;
+
+const AGREED: usize = 32;
+
+const IN_TURN: usize = 33;
+
+const CLOSED: usize = 34;
+
+const BOTH: usize = 35;
+
+const UNCOUNTED: usize = 36;
+
 // One more in cell i.
-fn add_one(tally: &mut [usize], i: usize) {
-    let n = test_cells::get(tally, i);
-    test_cells::put(tally, i, test_cells::add(n, 1));
+fn add_one(tally: &mut cells::Cells, i: usize) {
+    let n = cells::get(tally, i);
+    cells::put(tally, i, test_cells::add(n, 1));
 }
 
-// The cell of the refused round; cell 30 is for none.
-fn refused_round(found: &[usize]) -> usize {
-    if test_cells::get(found, 1) == 11 {
-        test_cells::add(13, test_cells::get(found, 2))
+// What is due, and whether it was found.
+fn count(tally: &mut cells::Cells, due: &cells::Cells, agreed: bool) {
+    let outcome = cells::get(due, cells::OUTCOME);
+    let round = test_cells::add(REFUSED, cells::get(due, cells::NUMBER));
+    add_one(tally, outcome);
+    add_one(tally, test_cells::pick(outcome == 11, round, UNCOUNTED));
+    add_one(tally, test_cells::pick(agreed, AGREED, DIFFERENT));
+}
+
+// What kind of case it is.
+fn count_case(tally: &mut cells::Cells, case: &cells::Cells, reached: bool, in_turn: bool) {
+    let closed = reached & (cells::get(case, cells::CLOSED_ARCS) > 0);
+    let both = cells::get(case, cells::CLOSURES) == draw::ALL_OPEN;
+    add_one(tally, test_cells::pick(closed, CLOSED, UNCOUNTED));
+    add_one(tally, test_cells::pick(both, BOTH, UNCOUNTED));
+    add_one(tally, test_cells::pick(in_turn, IN_TURN, UNCOUNTED));
+}
+
+// Does the library give what is due, with closures lent or without? The first that differs is
+// printed.
+fn agrees(case: &cells::Cells, lent: bool, due: &cells::Cells, first: bool) -> bool {
+    let got = library::answer(case, lent, cells::reached(due));
+    let same = cells::same(due, &got);
+    if first & !same {
+        report::case(case, due, &got);
+    }
+    same
+}
+
+// The same of a case: where closures are lent and all arcs open, both with and without.
+fn agree(case: &cells::Cells, due: &cells::Cells, first: bool) -> bool {
+    let manner = cells::get(case, cells::CLOSURES);
+    let agreed = agrees(case, manner > 0, due, first);
+    if agreed & (manner == draw::ALL_OPEN) {
+        agrees(case, false, due, first)
     } else {
-        30
+        agreed
     }
 }
 
-// Cells 0 to 13 of the tally count the outcomes, cells 14 to 21 the rounds refused for room, cell
-// 32 the cases that agree, cell 31 those that do not.
-fn count(tally: &mut [usize], found: &[usize]) {
-    add_one(tally, test_cells::get(found, 1));
-    add_one(tally, refused_round(found));
-    add_one(tally, test_cells::add(31, test_cells::get(found, 0)));
-}
-
-fn one(seed: &mut [usize], tally: &mut [usize]) {
-    let mut head = [0usize; 12];
-    let mut arcs = [0usize; 48];
-    let mut found = [0usize; 3];
-    draw::case(seed, &mut head, &mut arcs);
-    case::fit_room(&mut head, &arcs);
-    case::run(&head, &arcs, test_cells::get(tally, 31) == 0, &mut found);
-    count(tally, &found);
+fn one(tally: &mut cells::Cells, number: usize) {
+    let case = lister::fitted(draw::case(number));
+    let due = lister::answer(&case);
+    let agreed = agree(&case, &due, cells::get(tally, DIFFERENT) == 0);
+    count(tally, &due, agreed);
+    count_case(tally, &case, cells::reached(&due), draw::in_turn(number));
 }
 
 fn line(name: &[u8], n: usize, v: usize) {
@@ -51,53 +89,48 @@ fn line(name: &[u8], n: usize, v: usize) {
     io::write_all(1, b"\n");
 }
 
-fn outcomes(tally: &[usize]) {
-    for i in 0..14 {
-        line(b"outcome ", i, test_cells::get(tally, i));
+// A line for each number from `first` up to `end`, whose cells begin at `at`.
+fn lines(name: &[u8], tally: &cells::Cells, at: usize, first: usize, end: usize) {
+    for i in first..end {
+        line(name, i, cells::get(tally, test_cells::add(at, i)));
     }
 }
 
-fn refused_rounds(tally: &[usize]) {
-    for i in 1..9 {
-        line(
-            b"outcome 11 in round ",
-            i,
-            test_cells::get(tally, test_cells::add(13, i)),
-        );
-    }
-}
-
-fn all(seed: &mut [usize], tally: &mut [usize]) {
+fn all() -> cells::Cells {
+    let mut tally = [0usize; cells::CELLS];
     for i in 0..CASES {
-        one(seed, tally);
+        one(&mut tally, i);
     }
+    tally
 }
 
-fn damaged() {
-    let mut tally = [0usize; 2];
-    texts::all(
-        &mut tally,
-        b"4 5 0 3 4 1 2\n0 1 2\n0 2 3\n1 2 1\n1 3 2\n2 3 2\n",
+fn show(tally: &cells::Cells) {
+    line(b"agreed, of ", CASES, cells::get(tally, AGREED));
+    lines(b"outcome ", tally, 0, 0, OUTCOMES);
+    lines(b"outcome 11 in round ", tally, REFUSED, 1, 9);
+    line(b"thresholds in turn, of ", 1000, cells::get(tally, IN_TURN));
+    line(
+        b"rounds reached with closed arcs, of ",
+        CASES,
+        cells::get(tally, CLOSED),
     );
-    let agreed = test_cells::get(&tally, 1);
+    line(
+        b"all arcs open, asked with and without closures, of ",
+        CASES,
+        cells::get(tally, BOTH),
+    );
+}
+
+fn damaged(text: &[u8]) {
     line(
         b"damaged texts agreed, of ",
-        test_cells::add(test_cells::get(&tally, 0), agreed),
-        agreed,
+        test_cells::mul(text.len(), texts::DAMAGES),
+        texts::all(text),
     );
 }
 
 fn main() {
-    let mut tally = [0usize; 33];
-    let mut seed = [1usize; 2];
-    all(&mut seed, &mut tally);
-    line(b"agreed, of ", CASES, test_cells::get(&tally, 32));
-    outcomes(&tally);
-    refused_rounds(&tally);
-    line(
-        b"thresholds in turn, of ",
-        1000,
-        test_cells::less_one(test_cells::get(&seed, 1)),
-    );
-    damaged();
+    let tally = all();
+    show(&tally);
+    damaged(b"4 5 0 3 4 1 2\n0 1 2\n0 2 3\n1 2 1\n1 3 2\n2 3 2\n");
 }

@@ -3,6 +3,13 @@ use crate::report;
 
 const MOST: usize = 64;
 
+// How a byte is damaged: up to DELETED, a byte of each kind stands in its place.
+pub(crate) const DAMAGES: usize = 8;
+
+const DELETED: usize = 6;
+
+const DOUBLED: usize = 7;
+
 fn same(a: &[u8], b: &[u8]) -> bool {
     if a.len() != b.len() {
         return false;
@@ -25,72 +32,56 @@ fn held(text: &[u8], due: &[u8], found: &[u8], first: bool) -> bool {
     false
 }
 
+// The desk program's function. What it writes is told by no contract here.
+fn desk(text: &[u8], out: &mut [u8]) -> usize {
+    desk_text::desk(text, out)
+}
+
+fn finds(text: &[u8], due: &[u8], first: bool) -> bool {
+    let mut out = [0u8; desk_text::MOST_TEXT];
+    let n = desk(text, &mut out);
+    held(text, due, test_cells::between(&out, 0, n), first)
+}
+
 fn agrees(text: &[u8], first: bool) -> bool {
-    let mut due = [0u8; 4096];
-    let mut found = [0u8; desk_text::MOST_TEXT];
-    let n = test_listing::desk(text, &mut due);
-    let m = desk_text::desk(text, &mut found);
-    held(
-        text,
-        test_cells::between(&due, 0, n),
-        test_cells::between(&found, 0, m),
-        first,
-    )
+    let mut out = [0u8; 4096];
+    let n = test_listing::desk(text, &mut out);
+    finds(text, test_cells::between(&out, 0, n), first)
 }
 
-fn append(t: &mut [u8], at: usize, s: &[u8]) -> usize {
-    let mut p = at;
-    for i in 0..s.len() {
-        test_cells::put_byte(t, p, test_cells::byte(s, i));
-        p = test_cells::add(p, 1);
+// Byte p of the text that is damaged at byte i.
+fn byte(t: &[u8], i: usize, damage: usize, p: usize) -> u8 {
+    if (p == i) & (damage < DELETED) {
+        return test_cells::byte(b" \n019a", damage);
     }
-    p
+    let after = test_cells::pick(damage == DELETED, test_cells::add(p, 1), p);
+    let doubled = (damage == DOUBLED) & (p > i);
+    let from = test_cells::pick(doubled, test_cells::less_one(p), after);
+    test_cells::byte(t, test_cells::pick(p < i, p, from))
 }
 
-fn count(tally: &mut [usize], agreed: bool) {
-    let i = if agreed { 1 } else { 0 };
-    let n = test_cells::get(tally, i);
-    test_cells::put(tally, i, test_cells::add(n, 1));
-}
-
-// The text with s in place of its bytes i up to e.
-fn splice(tally: &mut [usize], t: &[u8], i: usize, e: usize, s: &[u8]) {
-    if i <= e {
-        if e <= t.len() {
-            let mut d = [0u8; MOST];
-            let n = append(&mut d, 0, &t[0..i]);
-            let m = append(&mut d, n, s);
-            let l = append(&mut d, m, &t[e..]);
-            let first = test_cells::get(tally, 0) == 0;
-            count(tally, agrees(test_cells::between(&d, 0, l), first));
-        }
+fn damaged(t: &[u8], i: usize, damage: usize) -> [u8; MOST] {
+    let mut text = [0u8; MOST];
+    for p in 0..MOST {
+        text[p] = byte(t, i, damage, p);
     }
+    text
 }
 
-fn deleted_or_doubled(tally: &mut [usize], t: &[u8], i: usize, e: usize) {
-    splice(tally, t, i, e, b"");
-    splice(tally, t, i, i, test_cells::between(t, i, e));
+fn one(t: &[u8], i: usize, damage: usize, first: bool) -> bool {
+    let text = damaged(t, i, damage);
+    let fewer = test_cells::pick(damage == DELETED, test_cells::less_one(t.len()), t.len());
+    let n = test_cells::add(fewer, (damage == DOUBLED) as usize);
+    agrees(test_cells::between(&text, 0, n), first)
 }
 
-// Replaced by bytes of each kind.
-fn replaced(tally: &mut [usize], t: &[u8], i: usize, e: usize) {
-    splice(tally, t, i, e, b" ");
-    splice(tally, t, i, e, b"\n");
-    splice(tally, t, i, e, b"0");
-    splice(tally, t, i, e, b"1");
-    splice(tally, t, i, e, b"9");
-    splice(tally, t, i, e, b"a");
-}
-
-fn at(tally: &mut [usize], t: &[u8], i: usize) {
-    let e = test_cells::add(i, 1);
-    deleted_or_doubled(tally, t, i, e);
-    replaced(tally, t, i, e);
-}
-
-// Cell 1 of the tally counts the texts that agree, cell 0 those that do not.
-pub(crate) fn all(tally: &mut [usize], t: &[u8]) {
-    for i in 0..t.len() {
-        at(tally, t, i);
+// How many of the damaged texts agree.
+pub(crate) fn all(t: &[u8]) -> usize {
+    let texts = test_cells::mul(t.len(), DAMAGES);
+    let mut agreed = 0;
+    for x in 0..texts {
+        let same = one(t, x / DAMAGES, x % DAMAGES, agreed == x);
+        agreed = test_cells::add(agreed, same as usize);
     }
+    agreed
 }

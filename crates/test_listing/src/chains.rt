@@ -25,17 +25,18 @@ pub(crate) fn meets(sheet: &sheet::Sheet, row: usize, arc: usize, node: usize) -
     false
 }
 
-// The row's size with the arc after it; 0 where there is no such arc, where it does not leave the
-// row's end, and where it leads to a node that the row visits.
+// The row's size with the arc after it; 0 where there is no such arc, where it is closed, where it
+// does not leave the row's end, and where it leads to a node that the row visits.
 fn grown(sheet: &sheet::Sheet, row: usize, arc: usize) -> usize {
     let to = sheet::of_arc(sheet, arc, sheet::TO);
     let from = sheet::of_arc(sheet, arc, sheet::FROM);
+    let open = sheet::of_arc(sheet, arc, sheet::CLOSED) == 0;
     let leaves = (arc <= sheet::get(sheet, sheet::ARC_COUNT)) & (from == end(sheet, row));
     let visited = (to == sheet::get(sheet, sheet::START)) | meets(sheet, row, 0, to);
     let long = sheet::of_arc(sheet, arc, sheet::LONG);
     let size = sheet::of_row(sheet, row, sheet::SIZE);
     let sum = test_cells::add(size, test_cells::place(long, sheet::PAIR, 1));
-    test_cells::pick(leaves & !visited, sum, 0)
+    test_cells::pick(open & leaves & !visited, sum, 0)
 }
 
 // Where the row goes on by the arc to an unvisited node: that partial route, as row `next`, and all

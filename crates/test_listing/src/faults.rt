@@ -47,6 +47,20 @@ fn faulty(sheet: &sheet::Sheet) -> usize {
     0
 }
 
+// Are closure bytes lent of another number than the arcs, or is one neither 0 nor 1?
+fn misclosed(sheet: &sheet::Sheet) -> bool {
+    let bytes = sheet::get(sheet, sheet::CLOSURE_BYTES);
+    let mut at = 0;
+    while at < bytes {
+        at += 1;
+        if sheet::of_arc(sheet, at, sheet::CLOSED) > 1 {
+            return true;
+        }
+    }
+    let lent = sheet::get(sheet, sheet::CLOSURES) > 0;
+    lent & (bytes != sheet::get(sheet, sheet::ARC_COUNT))
+}
+
 // What is wrong with the rest of the call, the lowest of 7 to 10, or 0.
 fn call_fault(sheet: &sheet::Sheet) -> usize {
     let nodes = sheet::get(sheet, sheet::NODES);
@@ -73,7 +87,8 @@ pub(crate) fn refusal(sheet: &sheet::Sheet) -> usize {
     let arcs = sheet::get(sheet, sheet::ARC_COUNT);
     let nodes = sheet::get(sheet, sheet::NODES);
     let at = faulty(sheet);
-    let fault = test_cells::pick(at > 0, record_fault(sheet, at), call_fault(sheet));
+    let rest = test_cells::pick(misclosed(sheet), 15, call_fault(sheet));
+    let fault = test_cells::pick(at > 0, record_fault(sheet, at), rest);
     let size = (nodes < 1) | (nodes > MOST_NODES) | (sheet::get(sheet, sheet::ODD_BYTES) > 0);
     let told = test_cells::pick(size, NO_TABLE, test_cells::place(fault, TOLD, at));
     let bad = sheet::get(sheet, sheet::BAD_LINE);

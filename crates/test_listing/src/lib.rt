@@ -11,7 +11,7 @@ mod text;
 ghost use Prim.Native.Nat.{_≤_};
 ghost use lib.ListN.{length};
 
-const MOST_OUTCOME: usize = 13;
+const MOST_OUTCOME: usize = 15;
 
 // What the desk program lends: the room, and words that any answer fits in.
 const ROOM: usize = 512;
@@ -32,9 +32,8 @@ fn at_most(x: usize, most: usize) -> usize
 }
 
 // Fills the sheet from numbers.
-fn ask<'a>(head: &[usize], arcs: &[usize], sheet: &'a mut sheet::Sheet) -> &'a mut sheet::Sheet {
-    let headed = sheet::copy(sheet, head, sheet::NODES, sheet::HEAD);
-    rounds::run(chains::list(sheet::copy(headed, arcs, sheet::ARCS, sheet::TABLE)))
+fn ask<'a>(asked: &[usize], sheet: &'a mut sheet::Sheet) -> &'a mut sheet::Sheet {
+    rounds::run(chains::list(sheet::copy(sheet, asked)))
 }
 
 // Fills the sheet from a text.
@@ -44,15 +43,16 @@ fn read<'a>(text: &[u8], sheet: &'a mut sheet::Sheet) -> &'a mut sheet::Sheet {
     rounds::run(chains::list(text::read(text, lent)))
 }
 
-// The call on numbers. `head`: nodes, arcs, s, t, k, a, b, the room, words of the area, summaries,
-// and table bytes past the last whole record. `arcs`: from, to, length and bytes 12 to 15 of each.
-// Where the rounds are reached `slots` begins with the k slots, and `sums` with length, arcs and
-// label count of each of the k rounds.
-pub fn answer(head: &[usize], arcs: &[usize], slots: &mut [usize], sums: &mut [usize]) -> Told
-    ensures { λ r. ⌜ r .outcome ≤ 13 ⌝ }
+// The call on numbers. `asked`: nodes, arcs, s, t, k, a, b, the room, words of the area, summaries,
+// table bytes past the last whole record, whether closures are lent (0 for not) and how many bytes
+// of them; then from, to, length, bytes 12 to 15 and the closure byte of each arc. Where the rounds
+// are reached `slots` begins with the k slots, and `sums` with length, arcs and label count of each
+// of the k rounds.
+pub fn answer(asked: &[usize], slots: &mut [usize], sums: &mut [usize]) -> Told
+    ensures { λ r. ⌜ r .outcome ≤ 15 ⌝ }
 {
     let mut sheet = [0usize; sheet::SHEET];
-    ask(head, arcs, &mut sheet);
+    ask(asked, &mut sheet);
     results::leave(&sheet, true, slots);
     results::leave(&sheet, false, sums);
     let told = results::told(&sheet);

@@ -7,40 +7,45 @@ pub(crate) const MOST_ROWS: usize = 1000;
 
 pub(crate) const MOST_ROUNDS: usize = 8;
 
-// The head: what was asked. The threshold is A / B; odd bytes are those past the table's last whole
-// record.
-pub(crate) const NODES: usize = 0;
-
-pub(crate) const ARC_COUNT: usize = 1;
-
-pub(crate) const START: usize = 2;
-
-pub(crate) const GOAL: usize = 3;
-
-pub(crate) const WANTED: usize = 4;
-
-pub(crate) const THRESHOLD_A: usize = 5;
-
-pub(crate) const THRESHOLD_B: usize = 6;
-
-pub(crate) const ROOM: usize = 7;
-
-pub(crate) const WORDS: usize = 8;
-
-pub(crate) const SUMMARIES: usize = 9;
-
-pub(crate) const ODD_BYTES: usize = 10;
-
-pub(crate) const HEAD: usize = ODD_BYTES + 1;
-
 // How many rounds have an answer.
-pub(crate) const FOUND: usize = HEAD;
+pub(crate) const FOUND: usize = 0;
 
-// The arcs: start node, end node, length, and what should be zero. Their first cell is a multiple
-// of ARC, which text.rt leans on.
-pub(crate) const ARCS: usize = FOUND + 1;
+// The number of the text's first bad line.
+pub(crate) const BAD_LINE: usize = 1;
 
-pub(crate) const ARC: usize = 4;
+// The head: what was asked. The threshold is A / B; odd bytes are those past the table's last whole
+// record. CLOSURES says whether closure bytes are lent, and CLOSURE_BYTES how many.
+pub(crate) const NODES: usize = 2;
+
+pub(crate) const ARC_COUNT: usize = 3;
+
+pub(crate) const START: usize = 4;
+
+pub(crate) const GOAL: usize = 5;
+
+pub(crate) const WANTED: usize = 6;
+
+pub(crate) const THRESHOLD_A: usize = 7;
+
+pub(crate) const THRESHOLD_B: usize = 8;
+
+pub(crate) const ROOM: usize = 9;
+
+pub(crate) const WORDS: usize = 10;
+
+pub(crate) const SUMMARIES: usize = 11;
+
+pub(crate) const ODD_BYTES: usize = 12;
+
+pub(crate) const CLOSURES: usize = 13;
+
+pub(crate) const CLOSURE_BYTES: usize = 14;
+
+// The arcs: start node, end node, length, what should be zero, and the closure byte, 0 where none
+// is lent. Their first cell is a multiple of ARC, which text.rt leans on.
+pub(crate) const ARCS: usize = CLOSURE_BYTES + 1;
+
+pub(crate) const ARC: usize = 5;
 
 pub(crate) const FROM: usize = ARCS - ARC;
 
@@ -50,13 +55,12 @@ pub(crate) const LONG: usize = FROM + 2;
 
 pub(crate) const ZERO: usize = FROM + 3;
 
-pub(crate) const TABLE: usize = MOST_ARCS * ARC;
+pub(crate) const CLOSED: usize = FROM + 4;
 
-// The number of the text's first bad line.
-pub(crate) const BAD_LINE: usize = ARCS + TABLE;
+const ASKED: usize = ARCS + MOST_ARCS * ARC - NODES;
 
 // The row after the last that is listed.
-pub(crate) const LISTED: usize = BAD_LINE + 1;
+pub(crate) const LISTED: usize = NODES + ASKED;
 
 // The rows, a partial route each, from row 1, the empty chain. The size is PAIR times the length
 // and the number of arcs; the link is PAIR times the row that the row extends and its last arc.
@@ -106,15 +110,10 @@ pub(crate) fn put(sheet: &mut Sheet, i: usize, value: usize) -> &mut Sheet {
     sheet
 }
 
-// The sheet with the first `count` numbers of `from` in the cells from `at` on.
-pub(crate) fn copy<'a>(
-    sheet: &'a mut Sheet,
-    from: &[usize],
-    at: usize,
-    count: usize,
-) -> &'a mut Sheet {
-    for i in 0..count {
-        put(sheet, test_cells::add(at, i), test_cells::get(from, i));
+// The sheet with what was asked, the head and the arcs, in its cells.
+pub(crate) fn copy<'a>(sheet: &'a mut Sheet, asked: &[usize]) -> &'a mut Sheet {
+    for i in 0..ASKED {
+        put(sheet, test_cells::add(NODES, i), test_cells::get(asked, i));
     }
     sheet
 }

@@ -1,5 +1,6 @@
 // The rounds of a case, one after the other.
 use crate::show;
+use query::Wish;
 use query_rounds::Progress;
 use search_ask::Ask;
 use summary::Sums;
@@ -22,7 +23,7 @@ fn rounds(name: &[u8], t: &[u8], ask: Ask, k: usize, labels: &mut [u8], area: &m
     };
     while x.stage == query_rounds::GOING {
         let r = x.r;
-        x = query_rounds::step(t, ask, k, labels, area, x);
+        x = query_rounds::step(t, &t[0..0], ask, k, labels, area, x);
         let sums = x.sums;
         show::round(name, r, sums, labels);
     }
@@ -31,7 +32,12 @@ fn rounds(name: &[u8], t: &[u8], ask: Ask, k: usize, labels: &mut [u8], area: &m
 // The rounds of a query for k routes. One that is refused shows nothing.
 pub(crate) fn run(name: &[u8], t: &[u8], ask: Ask, k: u32, labels: &mut [u8], area: &mut [u32]) {
     let wanted = k as usize;
-    let told = query::refused(t, ask, k, labels, area, wanted);
+    let wish = Wish {
+        k: k,
+        lent: wanted,
+        closing: false,
+    };
+    let told = query::refused(t, &t[0..0], ask, wish, labels, area);
     if told.outcome == outcome::FOUND {
         rounds(name, t, ask, wanted, labels, area);
     }

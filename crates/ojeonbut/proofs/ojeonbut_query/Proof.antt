@@ -1,7 +1,7 @@
 -- The exported query meets its contract, by a walk of its code. The work on plain data is `core`'s, and `write` puts as many records as that answer says into the lent slice.
 -- Each is called at the borrows' own lifetimes, so the three `&mut` are given up for good; the rest of the parameters is dropped.
 -- Of `core` and `write` it is known only that each meets its contract; of what `core` says, only that the count is within its bounds.
-use mathlib.Core.Path.{_≡_, refl, ap, subst, _∙_}
+use mathlib.Core.Path.{_≡_, refl, ap, subst}
 use Prim.Native.Nat.{ℕ, _<_, _≤_, _^_}
 use mathlib.Core.List.{[], _∷_, List}
 use lib.ListN.{length}
@@ -53,11 +53,12 @@ use Rattle.outcome.proofs.Told.Laws as O′
 use Rattle.query_rounds.specs.declared.Got.{Got}
 use Rattle.query_rounds.proofs.Got as G
 use Rattle.query_rounds.proofs.Got.Laws as G′
-use Rattle.query.specs.Query.{Replied, Cored, input}
+use Rattle.query.specs.Query.{Cored, input}
 use Rattle.query.proofs.core as core
 use Rattle.query.proofs.core.Symbol as core-def
 use Rattle.query.proofs.core.Symbol.{name as #query·core}
 use Rattle.query.proofs.core.Met as core-thm
+use Rattle.ojeonbut.proofs.AnswerLaws.{mach, mach-sums, mach-told, is-told, is-sums, n-fits, replied}
 use Rattle.ojeonbut.proofs.ojeonbut_query.Key.{name as #ojeonbut·query}
 use Rattle.ojeonbut.proofs.ojeonbut_query as f
 use Rattle.ojeonbut.proofs.ojeonbut_query.Statement as stated
@@ -110,37 +111,12 @@ module _ {M : Type 1} (𝓤 : URA M) (H : Heap 𝓤) (A : Atoms 𝓤) (W : Given
   abbrev Says : Got → List ℕ → List ℕ → Type 0
   Says g xs us = Cored (input (t .now) nodes s goal k a b (labels .now) (area .now) lent) g xs us
 
-  -- of the answer g of `core`: its machine value, its fields', and what is known of each
-  abbrev mach : Got → Val
-  mach g = LL.tuple-val G.the-type G′.the-laws (G.the-type .to g)
-
-  abbrev mach-sums : Got → Val
-  mach-sums g = LL.tuple-val S.the-type S′.the-laws (S.the-type .to (g .sums))
-
-  abbrev mach-told : Got → Val
-  mach-told g = LL.tuple-val O.the-type O′.the-laws (O.the-type .to (g .told))
-
-  module _ (g : Got) (is : Is G.the-row g (mach g ∷ [])) where
-    is-told : Is O.the-row (g .told) (mach-told g ∷ [])
-    is-told = LL.owed G.the-type G′.the-laws g _ is .0
-
-    is-sums : Is S.the-row (g .sums) (mach-sums g ∷ [])
-    is-sums = LL.owed G.the-type G′.the-laws g _ is .1 .0
-
-    n-fits : g .n < 2 ^ 64
-    n-fits = LL.owed G.the-type G′.the-laws g _ is .1 .1 .0 .1
-
-  -- the summaries that were written are those due
-  replied : (g : Got) (xs us : List ℕ) (zs : List Summary) → Says g xs us → zs ≡ written (g .sums) (g .n) (sums .now)
-      → Replied (input (t .now) nodes s goal k a b (labels .now) (area .now) lent) (g .told) xs us (sums .now) zs
-  replied g xs us zs said e = record { told = said .told; labels = said .labels; area = said .area; sums = e ∙ said .sums (sums .now) }
-
   exits : (g : Got) → Is G.the-row g (mach g ∷ []) → (xs us : List ℕ) → Says g xs us → length xs ≡ length (labels .now) → length us ≡ length (area .now) → (zs : List Summary) → length zs ≡ lent → zs ≡ written (g .sums) (g .n) (sums .now)
       → ent 𝓤 (⋆ 𝓤 H A ((‵ (flft κ₃ q₃) ⊛ ‵ ftrue) ∷ ‵ (finally T.the-row (sums .name) zs) ∷ (‵ (flft κ₀ q₀) ⊛ (‵ (flft κ₁ q₁) ⊛ (‵ (flft κ₂ q₂) ⊛ ‵ ftrue))) ∷ ‵ (finally u32 (area .name) us) ∷ ‵ (finally u8 (labels .name) xs) ∷ [])) (Post (mach-told g))
   exits g is xs us said lx lu zs lz e =
       qed W ((‵ (flft κ₃ q₃) ⊛ ‵ ftrue) ∷ ‵ (finally T.the-row (sums .name) zs) ∷ (‵ (flft κ₀ q₀) ⊛ (‵ (flft κ₁ q₁) ⊛ (‵ (flft κ₂ q₂) ⊛ ‵ ftrue))) ∷ ‵ (finally u32 (area .name) us) ∷ ‵ (finally u8 (labels .name) xs) ∷ []) ∵
       suffices ! _ (ends-at 𝓤 H A f.ended stayed (f.clauses 𝓤 H A mem run) W (((κ₀, (κ₁, (κ₂, (κ₃, tt)))), (q₀, (q₁, (q₂, (q₃, tt)))), tt, args, vals), tt) (mach-told g) (g .told) (tt, (tt, (tt, (tt, (tt, (tt, (tt, (xs, (us, (zs, tt)))))))))) (tt, (tt, (tt, (tt, (tt, (tt, (tt, (lx, (lu, (lz, tt))))))))))) $
-      says ! (replied g xs us zs said e) $
+      says ! (replied _ g xs us (sums .now) zs said e) $
       move ! (2 ∷ []) $ split ! $ move ! (1 ∷ []) $ split ! $ move ! (1 ∷ []) $ split ! $ move ! (0 ∷ 4 ∷ []) $ join ! $ move ! (2 ∷ 0 ∷ []) $ join ! $ move ! (2 ∷ 0 ∷ []) $ join ! $ frame ! $
       -- [true; the last records; the last area; the last labels]
       move ! (1 ∷ 0 ∷ []) $ fjoin ! $ move ! (1 ∷ 0 ∷ []) $ fjoin ! $ move ! (1 ∷ 0 ∷ []) $ fjoin ! $ nothing ! $ fjoin ! $ nothing ! $ fjoin ! $ nothing ! $ fjoin ! $ nothing ! $ fjoin ! $ nothing ! $ fjoin ! $ nothing ! $ fjoin ! $ nothing ! $ fjoin ! $

@@ -10,13 +10,14 @@ use Rattle.query.proofs.too_small.Tie as tie
 ruleset tests = (lt-ltb, le-ltb, arith)
 
 mul-words : tie.Need-mul-if1
-mul-words c = let s = c .before in omega (arith, few-words (s .args .k) (s .args .ask .nodes) (s .pre .2) (s .pre .1))
+mul-words c = let s = c .before .before in omega (arith, few-words (s .args .wish .k) (s .args .ask .nodes) (s .pre .2) (s .pre .1))
 
 pub too-small-spec : {M : Type 1} → statement M
 unfolding tooSmall
 too-small-spec =
     tie.close
     (tie.spec
+    (λ c. search needs)
     (λ c. search needs)
     (λ c. search needs)
     mul-words

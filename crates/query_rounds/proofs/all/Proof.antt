@@ -12,13 +12,13 @@ use Rattle.query_rounds.proofs.all.Statement.{statement}
 use Rattle.query_rounds.proofs.all.Tie as tie
 
 abbrev Inv-loop : tie.InvT-loop
-Inv-loop table ask k labels₀ area₀ w end x₀ labels area x = Gone (queryFor ask table labels₀) (width ask) k labels₀ area₀ labels area x
+Inv-loop table closed ask k labels₀ area₀ w end x₀ labels area x = Gone (queryFor ask table closed labels₀) (width ask) k labels₀ area₀ labels area x
 
 abbrev μ-loop : tie.MeasureT-loop
-μ-loop table ask k labels₀ area₀ w end x₀ labels area x = k - x .r + (1 - x .stage)
+μ-loop table closed ask k labels₀ area₀ w end x₀ labels area x = k - x .r + (1 - x .stage)
 
 abbrev start : tie.After-slice-known3 Inv-loop μ-loop → tie.Start Inv-loop μ-loop
-start a = a .before .before .before .before .before .before .before .before
+start a = a .before .before .before .before .before .before .before .before .before
 
 -- the area with its slots blank
 abbrev blank : tie.After-slice-known3 Inv-loop μ-loop → List ℕ
@@ -28,7 +28,7 @@ same-area : (a : tie.After-slice-known3 Inv-loop μ-loop) → length (blank a) �
 same-area a = a .before .before .fill32-part .kept .0
 
 loop-holds : tie.Need-loop-holds Inv-loop μ-loop
-loop-holds c = let s = start c in gone-start (s .args .ask) (s .args .table .now) (s .args .k) (s .args .labels .now) (blank c) (s .pre .1)
+loop-holds c = let s = start c in gone-start (s .args .ask) (s .args .table .now) (s .args .closed .now) (s .args .k) (s .args .labels .now) (blank c) (s .pre .1)
 
 step-requires : tie.Need-step-requires Inv-loop μ-loop
 step-requires c κs =
@@ -43,7 +43,7 @@ step-requires c κs =
         slots = omega (arith, s .pre .0 .slots, i .area-long, same-area a);
       },
       c .before .before .if1 .taken,
-      gone-underway (s .args .ask) (s .args .table .now) (s .args .k) (s .args .labels .now) (blank a) (m .loop .labels) (m .loop .area) (m .loop .x) i,
+      gone-underway (s .args .ask) (s .args .table .now) (s .args .closed .now) (s .args .k) (s .args .labels .now) (blank a) (m .loop .labels) (m .loop .area) (m .loop .x) i,
     )
 
 abbrev stepped : tie.After-slice-known5 Inv-loop μ-loop → tie.After-step Inv-loop μ-loop
@@ -55,7 +55,7 @@ loop-again c =
     let m = p .before .before .before .before .before in
     let a = m .before in
     let s = start a in
-    gone-step (s .args .ask) (s .args .table .now) (s .args .k) (s .args .labels .now) (blank a) (m .loop .labels) (m .loop .area) (m .loop .x) (m .loop .inv) _ _ (p .step .result) (p .step .ensures .0) (p .step .ensures .1)
+    gone-step (s .args .ask) (s .args .table .now) (s .args .closed .now) (s .args .k) (s .args .labels .now) (blank a) (m .loop .labels) (m .loop .area) (m .loop .x) (m .loop .inv) _ _ (p .step .result) (p .step .ensures .0) (p .step .ensures .1)
 
 abbrev ended : tie.After-sums Inv-loop μ-loop → tie.Else1 Inv-loop μ-loop
 ended c = c .before .before .before .before .before
@@ -71,7 +71,7 @@ returns c =
     let m = e .before .before in
     let a = m .before in
     let s = start a in
-    gone-end (s .args .ask) (s .args .table .now) (s .args .k) (s .args .labels .now) (blank a) (m .loop .labels) (m .loop .area) (m .loop .x) (m .loop .inv) (s .args .area .now) (s .pre .0 .few)
+    gone-end (s .args .ask) (s .args .table .now) (s .args .closed .now) (s .args .k) (s .args .labels .now) (blank a) (m .loop .labels) (m .loop .area) (m .loop .x) (m .loop .inv) (s .args .area .now) (s .pre .0 .few)
     (a .before .before .fill32-part .ensures) (e .if1 .left) _ (c .before .before .before .before .fill8 .ensures) _ (c .tell .ensures) refl refl
 
 pub all-spec : {M : Type 1} → statement M

@@ -24,10 +24,10 @@ use Rattle.query_rounds.proofs.step.Tie as tie
 -- ---- at the place after the round
 
 abbrev start : tie.After-round → tie.Start
-start a = a .before .before .before .before .before .before .before .before .before .before
+start a = a .before .before .before .before .before .before .before .before .before .before .before
 
 abbrev query : tie.After-round → Query
-query a = queryFor (start a .args .ask) (start a .args .table .now) (start a .args .labels .now)
+query a = queryFor (start a .args .ask) (start a .args .table .now) (start a .args .closed .now) (start a .args .labels .now)
 
 abbrev w : tie.After-round → ℕ
 w a = width (start a .args .ask)
@@ -37,10 +37,10 @@ r a = start a .args .x .r
 
 -- the area and the labels as the round left them
 abbrev area-left : tie.After-round → List ℕ
-area-left a = a .round .last .1 .1 .0
+area-left a = a .round .last .1 .1 .1 .0
 
 abbrev labels-left : tie.After-round → List ℕ
-labels-left a = a .round .last .1 .1 .1 .1 .0
+labels-left a = a .round .last .1 .1 .1 .1 .1 .0
 
 rounded : (a : tie.After-round)
     → Rounded (query a) (earlierIn (w a) (r a) (start a .args .area .now)) (w a) (r a) (start a .args .area .now) (area-left a) (start a .args .labels .now) (labels-left a) (a .round .result)
@@ -54,7 +54,7 @@ stepping a =
     let s = start a in
     let ok = s .pre .0 .accepted in
     record {
-      valid = accepted-valid ok (s .args .labels .now);
+      valid = accepted-valid ok (s .args .closed .now) (s .args .labels .now);
       few-arcs = few-arcs ok;
       nodes-most = nodes-most ok;
       len-most = lengths-most ok;
@@ -77,7 +77,7 @@ left a y z e k = (same-labels a, subst (Stepped (query a) (w a) (start a .args .
 
 round-requires : tie.Need-round-requires
 round-requires c κs =
-    let s = c .before .before .before .before .before .before .before .before .before in
+    let s = c .before .before .before .before .before .before .before .before .before .before in
     let h = s .pre .2 .going (s .pre .1) in
     let n = lens-long (s .args .x .sums .length) (s .args .x .r) (s .pre .2 .earlier .enough) in (
       record { accepted = s .pre .0 .accepted; earlier = earlier-lent (s .pre .2 .earlier); few = omega (arith, n, h, s .pre .0 .few); room = s .pre .0 .room },

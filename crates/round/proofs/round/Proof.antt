@@ -21,10 +21,10 @@ use Rattle.round.proofs.round.Statement.{statement}
 use Rattle.round.proofs.round.Tie as tie
 
 abbrev start : tie.After-search → tie.Start
-start a = a .before .before .before .before .before .before .before .before
+start a = a .before .before .before .before .before .before .before .before .before
 
 abbrev query : tie.After-search → Query
-query a = queryFor (start a .args .ask) (start a .args .table .now) (start a .args .labels .now)
+query a = queryFor (start a .args .ask) (start a .args .table .now) (start a .args .closed .now) (start a .args .labels .now)
 
 abbrev earlier : tie.After-search → List (List ℕ)
 earlier a = earlierOf (start a .args .ask) (start a .args .area .now) (start a .args .lens .now)
@@ -38,7 +38,7 @@ w a = width (start a .args .ask)
 
 -- the bytes as the search left them
 abbrev found : tie.After-search → List ℕ
-found a = a .search .last .1 .1 .1 .1 .0
+found a = a .search .last .1 .1 .1 .1 .1 .0
 
 standing : (a : tie.After-search) → Standing (query a .net .arcs) (query a .s) (found a) (a .search .result .n)
 standing a = searched-standing (query a) (earlier a) (start a .args .labels .now) (found a) (a .search .result) (a .search .ensures .1)
@@ -58,7 +58,7 @@ short e =
     let a = after e in
     let ok = start a .pre .0 .accepted in
     let o = last-over (query a) (earlier a) (w a) (r a) (start a .args .area .now) (start a .args .labels .now) (found a) (a .search .result) (a .search .ensures .1) (e .if2 .left) (a .search .result .n - 1) refl in
-    answered-short (query a) (earlier a) (accepted-valid ok (start a .args .labels .now)) (few-arcs ok) _ _ (o .ends)
+    answered-short (query a) (earlier a) (accepted-valid ok (start a .args .closed .now) (start a .args .labels .now)) (few-arcs ok) _ _ (o .ends)
 
 returns : tie.Need-returns
 returns c =

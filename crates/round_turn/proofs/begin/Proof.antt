@@ -20,19 +20,19 @@ few s = omega (arith, length-earlierIn (width (s .args .ask)) (length (s .args .
 
 returns : tie.Need-returns
 returns c =
-    let s = c .before .before .before .before .before in
+    let s = c .before .before .before .before .before .before in
     let l = s .args .labels .now in
-    begun-refused (queryFor (s .args .ask) (s .args .table .now) l) (earlierOf (s .args .ask) (s .args .area .now) (s .args .lens .now)) (accepted-valid (s .pre .accepted) l) (few s) l (omega arith)
+    begun-refused (queryFor (s .args .ask) (s .args .table .now) (s .args .closed .now) l) (earlierOf (s .args .ask) (s .args .area .now) (s .args .lens .now)) (accepted-valid (s .pre .accepted) (s .args .closed .now) l) (few s) l (omega arith)
 
 returns-2 : tie.Need-returns-2
 returns-2 c =
     let o = c .before .before in
     let p = o .before .before .before .before .before .before in
-    let s = p .before .before .before .before .before .before .before in
+    let s = p .before .before .before .before .before .before .before .before in
     let l = s .args .labels .now in
     let earlier = earlierOf (s .args .ask) (s .args .area .now) (s .args .lens .now) in
-    begun-first (queryFor (s .args .ask) (s .args .table .now) l) earlier (accepted-valid (s .pre .accepted) l) (few s) l _
-    (row-put l 0 (emptyRow (netFor (s .args .ask) (s .args .table .now)) (s .args .ask .s) earlier) _ _ (p .put-head .ensures) (o .put-overlaps .ensures ∙ ap (puts (p .put-head .last .0) headBytes) (zeros (netFor (s .args .ask) (s .args .table .now)) earlier (length (s .args .lens .now)) (few s) (length-earlierIn (width (s .args .ask)) (length (s .args .lens .now)) (s .args .area .now))))) (omega arith) (omega arith) (omega arith) (s .pre .accepted .apart)
+    begun-first (queryFor (s .args .ask) (s .args .table .now) (s .args .closed .now) l) earlier (accepted-valid (s .pre .accepted) (s .args .closed .now) l) (few s) l _
+    (row-put l 0 (emptyRow (netFor (s .args .ask) (s .args .table .now) (s .args .closed .now)) (s .args .ask .s) earlier) _ _ (p .put-head .ensures) (o .put-overlaps .ensures ∙ ap (puts (p .put-head .last .0) headBytes) (zeros (netFor (s .args .ask) (s .args .table .now) (s .args .closed .now)) earlier (length (s .args .lens .now)) (few s) (length-earlierIn (width (s .args .ask)) (length (s .args .lens .now)) (s .args .area .now))))) (omega arith) (omega arith) (omega arith) (s .pre .accepted .apart)
 
 pub begin-spec : {M : Type 1} → statement M
 begin-spec =

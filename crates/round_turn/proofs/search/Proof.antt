@@ -13,13 +13,13 @@ use Rattle.round_turn.proofs.search.Statement.{statement}
 use Rattle.round_turn.proofs.search.Tie as tie
 
 abbrev Inv-loop : tie.InvT-loop
-Inv-loop table ask area lens labels₀ x₀ labels x = Since (queryFor ask table labels₀) (earlierOf ask area lens) labels₀ x₀ labels x
+Inv-loop table closed ask area lens labels₀ x₀ labels x = Since (queryFor ask table closed labels₀) (earlierOf ask area lens) labels₀ x₀ labels x
 
 abbrev μ-loop : tie.MeasureT-loop
-μ-loop table ask area lens labels₀ x₀ labels x = leftIn (queryFor ask table labels₀) labels x
+μ-loop table closed ask area lens labels₀ x₀ labels x = leftIn (queryFor ask table closed labels₀) labels x
 
 abbrev start : tie.After-begin Inv-loop μ-loop → tie.Start Inv-loop μ-loop
-start b = b .before .before .before .before .before .before
+start b = b .before .before .before .before .before .before .before
 
 abbrev earlier : tie.After-begin Inv-loop μ-loop → List (List ℕ)
 earlier b = earlierOf (start b .args .ask) (start b .args .area .now) (start b .args .lens .now)
@@ -31,7 +31,7 @@ loop-holds : tie.Need-loop-holds Inv-loop μ-loop
 loop-holds c =
     let b = c .before .before in
     let s = start b in
-    since-start (s .args .ask) (s .args .table .now) (earlier b) _ (b .begin .result) (s .args .labels .now) (b .begin .ensures)
+    since-start (s .args .ask) (s .args .table .now) (s .args .closed .now) (earlier b) _ (b .begin .result) (s .args .labels .now) (b .begin .ensures)
 
 turn-requires : tie.Need-turn-requires Inv-loop μ-loop
 turn-requires c κs =
@@ -40,7 +40,7 @@ turn-requires c κs =
     let s = start b in (
       record { accepted = s .pre .accepted; earlier = s .pre .earlier; few = s .pre .few; room = omega (arith, s .pre .room, m .loop .inv .long, b .begin .ensures .long) },
       c .before .if1 .taken,
-      since-going (s .args .ask) (s .args .table .now) (earlier b) _ (b .begin .result) (m .loop .labels) (m .loop .x) (m .loop .inv) (c .before .if1 .taken),
+      since-going (s .args .ask) (s .args .table .now) (s .args .closed .now) (earlier b) _ (b .begin .result) (m .loop .labels) (m .loop .x) (m .loop .inv) (c .before .if1 .taken),
     )
 
 loop-less : tie.Need-loop-less Inv-loop μ-loop
@@ -48,21 +48,21 @@ loop-less c =
     let t = c .before .before in
     let m = t .before .before .before .before in
     let b = begun m in
-    since-less (start b .args .ask) (start b .args .table .now) (earlier b) _ (b .begin .result) (m .loop .labels) (m .loop .x) (m .loop .inv) _ (t .turn .result) (t .turn .ensures)
+    since-less (start b .args .ask) (start b .args .table .now) (start b .args .closed .now) (earlier b) _ (b .begin .result) (m .loop .labels) (m .loop .x) (m .loop .inv) _ (t .turn .result) (t .turn .ensures)
 
 loop-again : tie.Need-loop-again Inv-loop μ-loop
 loop-again c =
     let t = c .before .before in
     let m = t .before .before .before .before in
     let b = begun m in
-    since-turned (start b .args .ask) (start b .args .table .now) (earlier b) _ (b .begin .result) (m .loop .labels) (m .loop .x) (m .loop .inv) _ (t .turn .result) (t .turn .ensures)
+    since-turned (start b .args .ask) (start b .args .table .now) (start b .args .closed .now) (earlier b) _ (b .begin .result) (m .loop .labels) (m .loop .x) (m .loop .inv) _ (t .turn .result) (t .turn .ensures)
 
 returns : tie.Need-returns Inv-loop μ-loop
 returns c =
     let m = c .before .before in
     let b = begun m in
     let s = start b in
-    (c .if1 .left, since-end (s .args .ask) (s .args .table .now) (earlier b) _ (b .begin .result) (m .loop .labels) (m .loop .x) (m .loop .inv) (s .args .labels .now) (b .begin .ensures))
+    (c .if1 .left, since-end (s .args .ask) (s .args .table .now) (s .args .closed .now) (earlier b) _ (b .begin .result) (m .loop .labels) (m .loop .x) (m .loop .inv) (s .args .labels .now) (b .begin .ensures))
 
 pub search-spec : {M : Type 1} → statement M
 search-spec =

@@ -4,7 +4,7 @@ use native.Mathlib.Omega.{arith}
 use borrow.Author.Needs.{needs}
 use borrow.Author.Tests.{not-true, not-false}
 use mathlib.Core.Path.{_≡_, sym, ap, subst, _∙_}
-use mathlib.Core.List.{List}
+use mathlib.Core.List.{List, []}
 use mathlib.Core.Logic.{_≢_}
 use mathlib.Core.Bool.{true}
 use Prim.Native.Nat.{ℕ, _-_, _<_}
@@ -13,14 +13,13 @@ use lib.ListN.{length, take}
 use Rattle.net.specs.Round.{Query}
 use Rattle.net.specs.Search.{passes}
 use Rattle.net.proofs.Valid.{Valid}
-use Rattle.net.proofs.Chains.{leaves-e}
 use Rattle.table.specs.Table.{arcsOf}
 use Rattle.table.proofs.NetLaws.{arcs-length}
 use Rattle.labels.specs.Chain.{chainsIn}
 use Rattle.labels.specs.Field.{putRow}
 use Rattle.labels.specs.Rows.{overlapsOf}
 use Rattle.search_trial.specs.Trial.{Trying, passesAt}
-use Rattle.search_trial.proofs.TrialLaws.{measured, passes-here}
+use Rattle.search_trial.proofs.TrialLaws.{measured, passes-here, overlaps-open, holding-open}
 use Rattle.search_ask.specs.Ask.{Among, netFor, queryFor, chainOf}
 use Rattle.search_ask.specs.Earlier.{earlierOf}
 use Rattle.search_ask.proofs.AskLaws.{accepted-valid, few-arcs, nodes-most, lengths-most}
@@ -30,16 +29,16 @@ use Rattle.round_turn.proofs.turn.Statement.{statement}
 use Rattle.round_turn.proofs.turn.Tie as tie
 
 abbrev start : tie.After-next → tie.Start
-start a = a .before .before .before .before .before .before .before
+start a = a .before .before .before .before .before .before .before .before
 
 abbrev query : tie.After-next → Query
-query a = queryFor (start a .args .ask) (start a .args .table .now) (start a .args .labels .now)
+query a = queryFor (start a .args .ask) (start a .args .table .now) (start a .args .closed .now) (start a .args .labels .now)
 
 abbrev earlier : tie.After-next → List (List ℕ)
 earlier a = earlierOf (start a .args .ask) (start a .args .area .now) (start a .args .lens .now)
 
 valid : (a : tie.After-next) → Valid (query a)
-valid a = accepted-valid (start a .pre .0 .accepted) (start a .args .labels .now)
+valid a = accepted-valid (start a .pre .0 .accepted) (start a .args .closed .now) (start a .args .labels .now)
 
 -- ---- where there is a candidate
 
@@ -47,7 +46,7 @@ abbrev looked : tie.Else1 → tie.After-next
 looked e = e .before .before
 
 arc-below : (e : tie.Else1) → looked e .next .result .arc < length (arcsOf (start (looked e) .args .table .now))
-arc-below e = let a = looked e in leaves-e (netFor (start a .args .ask) (start a .args .table .now)) _ _ (a .next .ensures .points .leaves-end (e .if1 .left)) .is-arc
+arc-below e = looked e .next .ensures .points .arc-below (e .if1 .left)
 
 among : (e : tie.Else1) → Among (start (looked e) .args .table .now) (start (looked e) .args .x .n) (looked e .next .result)
 among e =
@@ -61,7 +60,7 @@ trying e =
     let s = start (looked e) in
     record {
       searching = record { accepted = s .pre .0 .accepted; standing = s .pre .2 .standing };
-      holding = s .pre .2 .holding;
+      holding = holding-open (s .args .ask) (s .args .table .now) (s .args .closed .now) [] (s .pre .2 .holding);
       among = among e;
       slots = s .pre .0 .earlier .slots;
     }
@@ -76,7 +75,7 @@ abbrev own : tie.After-of-candidate → List ℕ
 own c = take (length (start (looked (real c)) .args .lens .now) - 0) (c .of-candidate .last .1 .1 .1 .1 .1 .0)
 
 own-is : (c : tie.After-of-candidate) → let a = looked (real c) in let s = start a in
-    own c ≡ overlapsOf (query a .net) (earlier a) (chainOf (s .args .labels .now) (a .next .result))
+    own c ≡ overlapsOf (netFor (s .args .ask) (s .args .table .now) []) (earlier a) (chainOf (s .args .labels .now) (a .next .result))
 own-is c = ap (λ k. take k (c .of-candidate .last .1 .1 .1 .1 .1 .0)) (sub-zero (length (start (looked (real c)) .args .lens .now))) ∙ c .of-candidate .ensures .1
 
 abbrev tried : tie.After-passes → tie.After-of-candidate
@@ -89,7 +88,7 @@ verdict p =
     let e = real (tried p) in
     let s = start (looked e) in
     p .passes .ensures ∙ ap (λ v. passesAt (s .args .ask) (s .args .lens .now) (s .args .labels .now) (s .args .x .n) v (own (tried p))) (p .before .before .before .before .to-of .ensures)
-    ∙ passes-here (trying e) (s .pre .0 .earlier) (own (tried p)) (own-is (tried p))
+    ∙ passes-here (trying e) (s .pre .0 .earlier) (own (tried p)) (own-is (tried p)) (s .args .closed .now)
 
 -- ---- where it passes both tests
 
@@ -166,7 +165,8 @@ returns-4 c =
     let k = turned-taken (query a) (earlier a) (valid a) (s .args .labels .now) (s .args .x) (s .pre .2) (s .pre .1) (a .next .result) (a .next .ensures .points) (a .next .ensures .is) (e .if1 .left)
     (passed (f .before)) (roomy f) (arc-below e) in
     subst (λ l. Turned (query a) (earlier a) (s .args .labels .now) (s .args .x) l (t .take-up .result))
-    (sym (t .take-up .ensures .bytes ∙ ap (λ os. putRow (s .args .labels .now) (s .args .x .n) (rowFor (query a .net .arcs) (query a .s) (s .args .labels .now) (a .next .result) os)) (own-is o)))
+    (sym (t .take-up .ensures .bytes ∙ ap (λ os. putRow (s .args .labels .now) (s .args .x .n) (rowFor (query a .net .arcs) (query a .s) (s .args .labels .now) (a .next .result) os))
+    (own-is o ∙ overlaps-open (s .args .ask) (s .args .table .now) [] (s .args .closed .now) (earlier a) (chainOf (s .args .labels .now) (a .next .result)))))
     (subst (Turned (query a) (earlier a) (s .args .labels .now) (s .args .x) _) (sym (t .take-up .ensures .state)) k)
 
 pub turn-spec : {M : Type 1} → statement M

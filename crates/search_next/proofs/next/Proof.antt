@@ -10,34 +10,34 @@ use Rattle.net.specs.Search.{candidates}
 use Rattle.table.specs.Table.{arcsOf}
 use Rattle.labels.specs.Field.{noNumber}
 use Rattle.labels.specs.Chain.{chainAt}
-use Rattle.search_ask.specs.Ask.{PointsIn, netFor, candidateIn}
+use Rattle.search_ask.specs.Ask.{Points, netFor, candidateIn}
 use Rattle.search_next.specs.Scan.{scan, lastOf, nextIn}
 use Rattle.search_next.proofs.CandidateLaws.{candidate-none, next-start, next-turn, next-end}
 use Rattle.search_next.proofs.next.Statement.{statement}
 use Rattle.search_next.proofs.next.Tie as tie
 
 abbrev Inv-loop : tie.InvT-loop
-Inv-loop table ask labels seen n best₀ i₀ best i =
-    (i ≤ n) × (PointsIn ask table labels n best)
-    × (scan (arcsOf table) (lastOf labels seen) (candidateIn labels best) (candidates (netFor ask table) (ask .s) (gives (chainAt labels) i n))
-    ≡ nextIn ask table labels seen)
+Inv-loop table closed ask labels seen n best₀ i₀ best i =
+    (i ≤ n) × (Points (arcsOf table) n best)
+    × (scan (arcsOf table) (lastOf labels seen) (candidateIn labels best) (candidates (netFor ask table closed) (ask .s) (gives (chainAt labels) i n))
+    ≡ nextIn ask table closed labels seen)
 
 abbrev μ-loop : tie.MeasureT-loop
-μ-loop table ask labels seen n best₀ i₀ best i = n - i
+μ-loop table closed ask labels seen n best₀ i₀ best i = n - i
 
 abbrev start : tie.At-loop Inv-loop μ-loop → tie.Start Inv-loop μ-loop
-start a = a .before .before .before
+start a = a .before .before .before .before
 
 abbrev net : tie.Start Inv-loop μ-loop → Net
-net s = netFor (s .args .ask) (s .args .table .now)
+net s = netFor (s .args .ask) (s .args .table .now) (s .args .closed .now)
 
 loop-holds : tie.Need-loop-holds Inv-loop μ-loop
 loop-holds c =
-    let s = c .before .before in
+    let s = c .before .before .before in
     let b = s .args .labels .now in
     let last = lastOf b (s .args .seen) in (
       search needs,
-      record { label-below = λ ne. absurd (ne refl); leaves-end = λ ne. absurd (ne refl) },
+      record { label-below = λ ne. absurd (ne refl); arc-below = λ ne. absurd (ne refl) },
       ap (λ o. scan (net s .arcs) last o (candidates (net s) (s .args .ask .s) (gives (chainAt b) 0 (s .args .seen .n)))) (candidate-none b (record { label = 0; arc = noNumber }) refl)
           ∙ next-start (net s) last (s .args .ask .s) b (s .args .seen .n),
     )

@@ -2,21 +2,22 @@
 -- there is no `best`, and otherwise as the second comparison says.
 use mathlib.Core.Path.{_≡_, sym, _∙_}
 use mathlib.Core.Bool.{true, false}
-use mathlib.Core.List.{List}
+use mathlib.Core.List.{List, []}
 use mathlib.Core.Logic.{_≢_, ⊎-elim}
 use mathlib.Core.Option.{Option, some}
 use Prim.Native.Nat.{ℕ}
+use native.Mathlib.Omega.{arith}
 use Rattle.net.specs.Net.{Arc}
 use Rattle.net.specs.Route.{precedes}
 use Rattle.table.specs.Table.{arcsOf}
-use Rattle.table.proofs.NetLaws.{table-sound}
+use Rattle.table.proofs.NetLaws.{arcs-length, table-sound}
 use Rattle.labels.specs.Chain.{chainAt}
 use Rattle.labels.specs.Field.{noNumber}
 use Rattle.search_ask.specs.declared.Candidate.{Candidate}
-use Rattle.search_ask.specs.Ask.{Among, PointsIn, chainOf, candidateIn}
+use Rattle.search_ask.specs.Ask.{Among, Points, chainOf, candidateIn}
 use Rattle.search_order.proofs.OrderLaws.{empty-precedes}
 use Rattle.search_next.specs.Scan.{look, lastOf, Found}
-use Rattle.search_next.proofs.CandidateLaws.{candidate-none, candidate-some, candidate-new, last-none, last-some, leaves-below, yes-then, no-then, look-before, look-only, look-sooner, look-later}
+use Rattle.search_next.proofs.CandidateLaws.{candidate-none, candidate-some, candidate-new, last-none, last-some, yes-then, no-then, look-before, look-only, look-sooner, look-later}
 use Rattle.search_next.proofs.sooner.Statement.{statement}
 use Rattle.search_next.proofs.sooner.Tie as tie
 
@@ -35,13 +36,9 @@ best s = candidateIn (s .args .labels .now) (s .args .best)
 abbrev start : tie.Joined1 → tie.Start
 start c = c .before .before .before .before .before
 
--- what is pointed at is one of the candidates, and so is c
-pointed : (s : tie.Start) (x : Candidate) → PointsIn (s .args .ask) (s .args .table .now) (s .args .labels .now) (s .args .seen .n) x → x .arc ≢ noNumber
-    → Among (s .args .table .now) (s .args .seen .n) x
-pointed s x p ne = record { label-below = p .label-below ne; arc-below = leaves-below (s .args .ask .nodes) _ _ _ (p .leaves-end ne) }
-
-own : (s : tie.Start) → Among (s .args .table .now) (s .args .seen .n) (s .args .c)
-own s = record { label-below = s .pre .2; arc-below = leaves-below (s .args .ask .nodes) _ _ _ (s .pre .3) }
+-- what is pointed at is one of the candidates
+pointed : (s : tie.Start) (x : Candidate) → Points (arcs s) (s .args .seen .n) x → x .arc ≢ noNumber → Among (s .args .table .now) (s .args .seen .n) x
+pointed s x p ne = record { label-below = p .label-below ne; arc-below = omega (arith, p .arc-below ne, arcs-length (s .args .table .now)) }
 
 after : (c : tie.Joined1) → precedes (arcs (start c)) (last (start c)) (new (start c)) ≡ true
 after c =
@@ -50,20 +47,20 @@ after c =
     ⊎-elim (λ w. rw (last-some l (s .args .seen .last) (w .0 .taken)) (yes-then (w .1 .ensures) (w .2 .left)))
     (λ w. rw (last-none l (s .args .seen .last) (w .left))
     (empty-precedes (arcs s) (chainAt l (s .args .c .label)) (s .args .c .arc)
-    (table-sound (s .args .ask .nodes) (s .args .table .now) (s .pre .0 .searching .accepted .no-fault) .positive (s .args .c .arc))))
+    (table-sound (s .args .ask .nodes) (s .args .table .now) (s .pre .0 .searching .accepted .no-fault) [] .positive (s .args .c .arc))))
     (c .if1 .came)
 
 -- c is what the look keeps
 kept : (s : tie.Start) → look (arcs s) (last s) (best s) (new s) ≡ some (new s)
     → Found (s .args .ask) (s .args .table .now) (s .args .labels .now) (s .args .seen) (s .args .c) (look (arcs s) (last s) (best s) (new s))
 kept s e =
-    let m = candidate-new (s .args .ask) (s .args .table .now) (s .args .labels .now) (s .args .seen .n) (s .args .c) (s .pre .0 .searching .accepted .no-fault) (s .pre .2) (s .pre .3) in
+    let m = candidate-new (s .args .ask) (s .args .table .now) (s .args .labels .now) (s .args .seen .n) (s .args .c) (s .pre .0 .searching .accepted .no-fault) (s .pre .2) in
     record { is = m .0 ∙ sym e; points = m .1 }
 
 precedes-requires : tie.Need-precedes-requires
 precedes-requires c κs =
     let s = c .before .before .before .before .before in
-    (s .pre .0 .searching, pointed s (s .args .seen .last) (s .pre .0 .points) (c .if1 .taken), own s)
+    (s .pre .0 .searching, pointed s (s .args .seen .last) (s .pre .0 .points) (c .if1 .taken), s .pre .2)
 
 returns : tie.Need-returns
 returns c =
@@ -76,7 +73,7 @@ returns c =
 precedes-requires-2 : tie.Need-precedes-requires-2
 precedes-requires-2 c κs =
     let s = start (c .before .before) in
-    (s .pre .0 .searching, own s, pointed s (s .args .best) (s .pre .1) (c .if3 .taken))
+    (s .pre .0 .searching, s .pre .2, pointed s (s .args .best) (s .pre .1) (c .if3 .taken))
 
 returns-2 : tie.Need-returns-2
 returns-2 c =

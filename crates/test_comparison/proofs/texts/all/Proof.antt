@@ -1,27 +1,18 @@
--- `comparison::texts::all` is safe and ends: its loop counts to its end, and keeps the length of each slice that it writes.
+-- `all` ends: its loop counts the texts.
 use borrow.Author.Needs.{needs}
-use Prim.Native.Nat.{_≤_, _-_}
-use mathlib.Core.Path.{_≡_}
-use lib.ListN.{length}
+use Prim.Native.Nat.{_-_}
 use Rattle.test_comparison.proofs.texts.all.Statement.{statement}
 use Rattle.test_comparison.proofs.texts.all.Tie as tie
 
 abbrev Inv-loop : tie.InvT-loop
-Inv-loop tally₀ t i₀ i-end tally i = (i ≤ i-end) × (i-end ≡ length t) × (length tally ≡ length tally₀)
+Inv-loop t texts agreed₀ x₀ agreed x = Unit {0}
 
 abbrev μ-loop : tie.MeasureT-loop
-μ-loop tally₀ t i₀ i-end tally i = i-end - i
+μ-loop t texts agreed₀ x₀ agreed x = texts - x
 
 pub all-spec : {M : Type 1} → statement M
 all-spec =
     tie.close
-    (tie.spec
-    Inv-loop
-    μ-loop
-    (λ c. search needs)
-    (λ c κs. search needs)
-    (λ c. search needs)
-    (λ c. search needs)
-    (λ c. search needs)
-    (λ c. search needs)
-    (λ c. search needs))
+    (tie.spec Inv-loop μ-loop (λ c κs. search needs) (λ c. search needs) (λ c κs. search needs)
+    (λ c. search needs) (λ c κs. search needs) (λ c. search needs) (λ c. search needs)
+    (λ c. search needs) (λ c. search needs))

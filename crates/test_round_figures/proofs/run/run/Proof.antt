@@ -1,5 +1,7 @@
 -- Where nothing refuses the query, it is what the rounds ask.
 use mathlib.Core.Path.{sym, ap, _∙_}
+use mathlib.Core.Bool.{false}
+use mathlib.Core.List.{[]}
 use borrow.Author.Needs.{needs}
 use Rattle.query.specs.Query.{Input, asked}
 use Rattle.query.proofs.DecideLaws.{reached, wanted}
@@ -10,8 +12,8 @@ rounds-requires : tie.Need-rounds-requires
 rounds-requires c κs =
     let t = c .before .before in
     let r = t .before .before in
-    let s = r .before .before .before .before .before .before .before in
-    let i = asked (s .args .t .now) (s .args .ask) (s .args .k) (s .args .labels .now) (s .args .area .now) (s .args .k) in
+    let s = r .before .before .before .before .before .before .before .before in
+    let i = asked (s .args .t .now) [] (s .args .ask) (record { k = s .args .k; lent = s .args .k; closing = false }) (s .args .labels .now) (s .args .area .now) in
     let on = reached i (sym (ap (λ x. x .outcome) (r .refused .ensures)) ∙ t .if1 .taken) in
     (wanted i on, on .passed .k-least)
 
@@ -19,6 +21,9 @@ pub run-spec : {M : Type 1} → statement M
 run-spec =
     tie.close
     (tie.spec
+    (λ c. search needs)
+    (λ c. search needs)
+    (λ c. search needs)
     (λ c κs. search needs)
     rounds-requires
     (λ c. search needs)

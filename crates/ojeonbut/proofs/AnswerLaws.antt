@@ -1,0 +1,40 @@
+-- The answer of a core, as the exported queries hand it on: the machine values of its fields, and what is due once as many records are written as it says.
+use mathlib.Core.Path.{_≡_, _∙_}
+use Prim.Native.Nat.{ℕ, _<_, _^_}
+use mathlib.Core.List.{[], _∷_, List}
+use mir.Val.{Val}
+use denote.Laws.{Is}
+use denote.Struct.Laws as LL
+use Rattle.summary.specs.declared.Summary.{Summary}
+use Rattle.summary.specs.Sums.{written}
+use Rattle.summary.proofs.Sums as S
+use Rattle.summary.proofs.Sums.Laws as S′
+use Rattle.outcome.proofs.Told as O
+use Rattle.outcome.proofs.Told.Laws as O′
+use Rattle.query_rounds.specs.declared.Got.{Got}
+use Rattle.query_rounds.proofs.Got as G
+use Rattle.query_rounds.proofs.Got.Laws as G′
+use Rattle.query.specs.Query.{Input, Replied, Cored}
+
+abbrev pub mach : Got → Val
+mach g = LL.tuple-val G.the-type G′.the-laws (G.the-type .to g)
+
+abbrev pub mach-sums : Got → Val
+mach-sums g = LL.tuple-val S.the-type S′.the-laws (S.the-type .to (g .sums))
+
+abbrev pub mach-told : Got → Val
+mach-told g = LL.tuple-val O.the-type O′.the-laws (O.the-type .to (g .told))
+
+module _ (g : Got) (is : Is G.the-row g (mach g ∷ [])) where
+  pub is-told : Is O.the-row (g .told) (mach-told g ∷ [])
+  is-told = LL.owed G.the-type G′.the-laws g _ is .0
+
+  pub is-sums : Is S.the-row (g .sums) (mach-sums g ∷ [])
+  is-sums = LL.owed G.the-type G′.the-laws g _ is .1 .0
+
+  pub n-fits : g .n < 2 ^ 64
+  n-fits = LL.owed G.the-type G′.the-laws g _ is .1 .1 .0 .1
+
+-- the summaries that were written are those due
+pub replied : (i : Input) (g : Got) (xs us : List ℕ) (ys zs : List Summary) → Cored i g xs us → zs ≡ written (g .sums) (g .n) ys → Replied i (g .told) xs us ys zs
+replied i g xs us ys zs said e = record { told = said .told; labels = said .labels; area = said .area; sums = e ∙ said .sums ys }
