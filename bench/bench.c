@@ -1,4 +1,4 @@
-/* The library against the baseline: times by size, k and threshold; growth of time with labels; the stack that each call needs.
+/* The library against the baseline: times by size, k and threshold; growth of time with labels; times of a road file; the stack that each call needs.
  *
  *     bench [--quick]     --quick: only the rows of the smallest network, with three legs
  *
@@ -302,6 +302,11 @@ static void work_check(void) { answered = ojeonbut_check(net.table, net.bytes, n
 static void work_arcs_from(void) { answered.number = ojeonbut_arcs_from(net.table, net.bytes, net.nodes, net.nodes / 2).bytes; }
 static void work_query(void) { answered = ask(ojeonbut_query, asked, &of_library); }
 
+static uint8_t text[24 * (OJEONBUT_ARCS + 1)], table_again[OJEONBUT_ARCS * OJEONBUT_RECORD];
+static ojeonbut_made written, read_again;
+static void work_write_roads(void) { written = ojeonbut_write_roads(net.table, net.bytes, net.nodes, text, sizeof text); }
+static void work_read_roads(void) { read_again = ojeonbut_read_roads(text, written.bytes, table_again, sizeof table_again); }
+
 /* Runs the work some way down the stack, out of reach of what the switch back uses. */
 static void entry(void)
 {
@@ -358,6 +363,38 @@ static void stack_of_query(uint32_t longest)
     fflush(stdout);
 }
 
+/* The least time of several runs, in milliseconds. */
+static double least_time(void (*w)(void))
+{
+    double least = INFINITY;
+    for (int i = 0; i < 9; i++) {
+        double begin = seconds();
+        w();
+        least = fmin(least, 1e3 * (seconds() - begin));
+    }
+    return least;
+}
+
+/* A record of more than 16 bytes is returned by each kind of machine in its own way, and the library's module is made for x86-64: elsewhere (--native) these calls are left out. */
+#ifdef __x86_64__
+#define ROADS 1
+#else
+#define ROADS 0
+#endif
+
+/* The largest network written as a road file and read again, which has to give it back. */
+static void table_of_roads(void)
+{
+    if (!ROADS)
+        return;
+    make(&net, 64, 64, LONGEST);
+    double write_ms = least_time(work_write_roads), read_ms = least_time(work_read_roads);
+    printf("\nA road file of %zu arcs, %zu bytes: written in %.3f ms, read in %.3f ms\n", net.bytes / OJEONBUT_RECORD, written.bytes, write_ms, read_ms);
+    queries++;
+    agreed += written.outcome == OJEONBUT_FOUND && read_again.outcome == OJEONBUT_FOUND && read_again.bytes == net.bytes && read_again.nodes == net.nodes &&
+              memcmp(table_again, net.table, net.bytes) == 0;
+}
+
 static void table_of_stack(void)
 {
     make(&net, 64, 64, LONGEST);
@@ -365,6 +402,10 @@ static void table_of_stack(void)
            net.bytes / OJEONBUT_RECORD);
     printf("  ojeonbut_check      %7zu\n", stack_of(work_check));
     printf("  ojeonbut_arcs_from  %7zu\n", stack_of(work_arcs_from));
+    if (ROADS) {
+        printf("  ojeonbut_write_roads %6zu\n", stack_of(work_write_roads));
+        printf("  ojeonbut_read_roads %7zu\n", stack_of(work_read_roads));
+    }
     stack_of_query(LONGEST);
     stack_of_query(1);
     printf("Memory: %d bytes a label, lent by the caller: %d for room %d, %d for the greatest room.\n", OJEONBUT_LABEL, ROOM * OJEONBUT_LABEL, ROOM,
@@ -388,6 +429,7 @@ int main(int argc, char **argv)
     table_of_rows(quick);
     if (!quick) {
         table_of_growth();
+        table_of_roads();
         table_of_stack();
     }
     printf("\nqueries %" PRIu32 ", agreed %" PRIu32 "\n", queries, agreed);

@@ -19,6 +19,32 @@ stale() {
     [ ! -e "$1" ] || [ -n "$(find "$top/crates" "$top/crates.txt" -newer "$1" \( -name '*.rt' -o -name '*.antt' -o -name crates.txt \) 2>/dev/null | head -n 1)" ]
 }
 
+# need_program CRATE TIME: proves and builds a program where it is missing or older than a source, which takes about TIME; what is done goes to standard error.
+need_program() {
+    if stale "$top/target/bin/$1"; then
+        echo "$1: proving the program, once: about $2" >&2
+        mkdir -p "$top/target"
+        {
+            (cd "$top" && rt check "$1") 2>&1 </dev/null
+            echo $? >"$top/target/$1-status"
+        } | sed -un "s/^rt: \\([a-z_]* proved\\)/$1: \\1/p" >&2
+        if [ "$(cat "$top/target/$1-status")" != 0 ]; then
+            echo "$1: the program is not proved: run 'rt check $1' in $top" >&2
+            exit 1
+        fi
+        # It is of these sources, also where rt had nothing to build.
+        touch "$top/target/bin/$1"
+    fi
+}
+
+# run_roads [NODES]: runs the program for road files. What it says goes to standard error, and a refusal is status 1.
+run_roads() {
+    need_program roads "a minute"
+    { said=$(run_proved "$top/target/bin/roads" "$@" 2>&1 >&3) || exit 1; } 3>&1
+    [ -z "$said" ] || echo "$said" >&2
+    case $said in refused*) exit 1 ;; usage*) exit 2 ;; esac
+}
+
 # Runs a proved program, under the kit's loader.
 run_proved() {
     emulator=$tools/bin/qemu-x86_64

@@ -17,7 +17,7 @@ extern "C" {
 #endif
 
 /* The version that this header declares; ojeonbut_version() gives the archive's. It goes up with every change that a caller can see: docs/CHANGES.md. */
-#define OJEONBUT_VERSION 2
+#define OJEONBUT_VERSION 3
 
 /* A road table: arc records of 16 bytes, little-endian: start node, end node, length, four zero bytes; 4 bytes each. Records stand in order of start node.
  * An arc's number is its record's, from 0; a node's is below the node count. */
@@ -32,7 +32,7 @@ extern "C" {
 
 /* The outcomes. `number` is what stands beside each in ojeonbut_reply; where none is named it is 0. 12 is the desk program's, for malformed text: no call gives it. */
 enum ojeonbut_outcome {
-    OJEONBUT_FOUND = 0,     /* all k routes found; from ojeonbut_check: the table has no fault */
+    OJEONBUT_FOUND = 0,     /* all k routes found; from ojeonbut_check: the table has no fault; from the calls for road files: done */
     OJEONBUT_FEWER = 1,     /* fewer than k routes found, and no further one exists */
     OJEONBUT_NODE = 2,      /* a record names a node not below the node count; number: the record */
     OJEONBUT_LOOP = 3,      /* a record starts and ends at one node; number: the record */
@@ -42,9 +42,10 @@ enum ojeonbut_outcome {
     OJEONBUT_ENDS = 7,      /* start or goal not below the node count, or equal */
     OJEONBUT_WANTED = 8,    /* k outside 1 to 8 */
     OJEONBUT_THRESHOLD = 9, /* b outside 1 to 1,000, or a not below b */
-    OJEONBUT_BUFFERS = 10,  /* area under k * (nodes - 1) words, fewer than k summaries, or over 65,535 whole labels */
+    OJEONBUT_BUFFERS = 10,  /* area under k * (nodes - 1) words, fewer than k summaries, or over 65,535 whole labels; the area lent for a table or a text too short */
     OJEONBUT_ROOM = 11,     /* a round needs more labels than were lent; number: the round, from 1 */
     OJEONBUT_SIZE = 13,     /* node count outside 1 to 4,096, table bytes not a multiple of 16, or over 16,384 records */
+    OJEONBUT_FILE = 14,     /* a road file is malformed; number: its first line, from 1, that is none of the permitted ones, or the number a missing line would have */
     OJEONBUT_CLOSURES = 15  /* closure bytes of another number than the arcs, or one that is neither 0 nor 1 */
 };
 
@@ -65,6 +66,14 @@ typedef struct ojeonbut_summary {
     uint64_t arcs;
     uint64_t labels;
 } ojeonbut_summary;
+
+/* What a call for road files made: the bytes of the table or the text and, of a table, its node count. A text has nodes 0; a refusal has bytes and nodes 0. */
+typedef struct ojeonbut_made {
+    uint32_t outcome; /* an enum ojeonbut_outcome */
+    uint32_t number;
+    size_t bytes;
+    uint32_t nodes;
+} ojeonbut_made;
 
 uint32_t ojeonbut_version(void);
 
@@ -96,6 +105,18 @@ ojeonbut_reply ojeonbut_query_closed(const uint8_t *table, size_t table_bytes, u
 /* The step along a node's run that the query takes: the first arc from `place` on that is open, or `end` where there is none before it. Past the bytes an arc is open;
  * where `place` is not below `end` it is `end`. Writes nothing. */
 size_t ojeonbut_next_arc(const uint8_t *closed, size_t closed_bytes, size_t place, size_t end);
+
+/* A road file (the shortest-path graph format of the 9th DIMACS Implementation Challenge) has these lines, each ended by a newline, and no other: `c` alone, or `c`, a space
+ * and any bytes; one line `p sp NODES ARCS` before every `a`; and ARCS lines `a TAIL HEAD LENGTH`, nodes counted from 1. One space between parts; numbers in decimal,
+ * without sign or leading zero, at most 4,294,967,295.
+ *
+ * Reads one into a table at the front of `table`: the arcs in order of start node, those of one start node as they stand in the file. Refusals: 14; then 13 and 2 to 4 on the
+ * table made, by its own record numbers; then 10 where table_bytes is below 16 for each arc. A refusal changes no byte; nor does a read past the table made. */
+ojeonbut_made ojeonbut_read_roads(const uint8_t *text, size_t text_bytes, uint8_t *table, size_t table_bytes);
+
+/* Writes a table as a road file at the front of `text`: `p sp NODES ARCS`, then the arcs in their order. Refusals: 13 and 2 to 6, as ojeonbut_check; then 10 where text_bytes is
+ * below the file's. A refusal changes no byte; nor does a write past the file made. Reading the file gives the table back, byte for byte, and its node count. */
+ojeonbut_made ojeonbut_write_roads(const uint8_t *table, size_t table_bytes, uint32_t nodes, uint8_t *text, size_t text_bytes);
 
 #ifdef __cplusplus
 }

@@ -2,11 +2,11 @@
 //! What that header asks of a caller, Rust's slices ensure: they are valid for their lengths, and a `&mut` one overlaps no other.
 
 /// The version of include/ojeonbut.h that these calls are for. Each call asks once that the archive linked is of it, and panics where it is not.
-pub const VERSION: u32 = 2;
+pub const VERSION: u32 = 3;
 
 /// The outcomes, by number. What the number beside each says is in include/ojeonbut.h.
 pub mod outcome {
-    /// All k routes found; from `check`: the table has no fault.
+    /// All k routes found; from `check`: the table has no fault; from the calls for road files: done.
     pub const FOUND: u32 = 0;
     /// Fewer than k routes found, and no further one exists.
     pub const FEWER: u32 = 1;
@@ -26,12 +26,14 @@ pub mod outcome {
     pub const WANTED: u32 = 8;
     /// b outside 1 to 1,000, or a not below b.
     pub const THRESHOLD: u32 = 9;
-    /// Area or summaries too few, or labels too many.
+    /// Area or summaries too few, labels too many, or too short an area for a table or a text.
     pub const BUFFERS: u32 = 10;
     /// A round needs more labels than were lent.
     pub const ROOM: u32 = 11;
     /// Node count, table bytes or number of records outside their limits.
     pub const SIZE: u32 = 13;
+    /// A road file is malformed; beside it stands the line.
+    pub const FILE: u32 = 14;
     /// Closure bytes of another number than the arcs, or one that is neither 0 nor 1.
     pub const CLOSURES: u32 = 15;
 }
@@ -59,8 +61,18 @@ pub struct Summary {
     pub labels: u64,
 }
 
+/// What a call for road files made: the bytes of the table or the text and, of a table, its node count. A refusal has bytes and nodes 0.
+#[repr(C)]
+#[derive(Clone, Copy, Debug, PartialEq, Eq)]
+pub struct Made {
+    pub outcome: u32,
+    pub number: u32,
+    pub bytes: usize,
+    pub nodes: u32,
+}
+
 mod raw {
-    use super::{Part, Reply, Summary};
+    use super::{Made, Part, Reply, Summary};
 
     extern "C" {
         pub fn ojeonbut_version() -> u32;
@@ -101,6 +113,8 @@ mod raw {
             summary_count: usize,
         ) -> Reply;
         pub fn ojeonbut_next_arc(closed: *const u8, closed_bytes: usize, place: usize, end: usize) -> usize;
+        pub fn ojeonbut_read_roads(text: *const u8, text_bytes: usize, table: *mut u8, table_bytes: usize) -> Made;
+        pub fn ojeonbut_write_roads(table: *const u8, table_bytes: usize, nodes: u32, text: *mut u8, text_bytes: usize) -> Made;
     }
 }
 
@@ -208,4 +222,18 @@ pub fn next_arc(closed: &[u8], place: usize, end: usize) -> usize {
     ask_version();
     // SAFETY: as for `check`.
     unsafe { raw::ojeonbut_next_arc(closed.as_ptr(), closed.len(), place, end) }
+}
+
+/// A road file read into a table at the front of `table`.
+pub fn read_roads(text: &[u8], table: &mut [u8]) -> Made {
+    ask_version();
+    // SAFETY: both slices are valid for their lengths, and the one that is written is borrowed mutably.
+    unsafe { raw::ojeonbut_read_roads(text.as_ptr(), text.len(), table.as_mut_ptr(), table.len()) }
+}
+
+/// A table written as a road file at the front of `text`.
+pub fn write_roads(table: &[u8], nodes: u32, text: &mut [u8]) -> Made {
+    ask_version();
+    // SAFETY: as for `read_roads`.
+    unsafe { raw::ojeonbut_write_roads(table.as_ptr(), table.len(), nodes, text.as_mut_ptr(), text.len()) }
 }

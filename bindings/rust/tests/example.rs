@@ -1,5 +1,5 @@
 //! The scope's example through the safe calls.
-use ojeonbut::{arcs_from, check, next_arc, outcome, query, query_closed, version, Reply, Summary, VERSION};
+use ojeonbut::{arcs_from, check, next_arc, outcome, query, query_closed, read_roads, version, write_roads, Made, Reply, Summary, VERSION};
 
 const NONE: u32 = u32::MAX;
 
@@ -58,6 +58,25 @@ fn table_calls() {
     assert_eq!(arcs_from(&table, 4, 1), &table[32..64]);
     assert!(arcs_from(&table, 4, 3).is_empty() && arcs_from(&table, 3, 1).is_empty());
     assert_eq!(check(&[], 0), Reply { outcome: outcome::SIZE, number: 0 });
+}
+
+#[test]
+fn road_files() {
+    let text = b"c shuffled\np sp 4 5\na 2 3 1\na 1 2 2\na 3 4 2\na 1 3 3\nc\na 2 4 2\n";
+    let mut area = [85u8; 96];
+    assert_eq!(read_roads(text, &mut area), Made { outcome: outcome::FOUND, number: 0, bytes: 80, nodes: 4 });
+    assert_eq!(area[..80], table()[..]);
+    assert!(area[80..].iter().all(|&b| b == 85));
+    let mut written = [85u8; 64];
+    let due = b"p sp 4 5\na 1 2 2\na 1 3 3\na 2 3 1\na 2 4 2\na 3 4 2\n";
+    assert_eq!(write_roads(&table(), 4, &mut written), Made { outcome: outcome::FOUND, number: 0, bytes: due.len(), nodes: 0 });
+    assert_eq!(written[..due.len()], due[..]);
+    assert!(written[due.len()..].iter().all(|&b| b == 85));
+    let mut few = [85u8; 79];
+    assert_eq!(read_roads(text, &mut few), Made { outcome: outcome::BUFFERS, number: 0, bytes: 0, nodes: 0 });
+    assert_eq!(read_roads(b"p sp 2 1\na 0 1 1\n", &mut few), Made { outcome: outcome::FILE, number: 2, bytes: 0, nodes: 0 });
+    assert_eq!(write_roads(&table(), 3, &mut few), Made { outcome: outcome::NODE, number: 3, bytes: 0, nodes: 0 });
+    assert!(few.iter().all(|&b| b == 85));
 }
 
 #[test]

@@ -9,8 +9,9 @@ use lib.ListN.{length, take, getD, length-append}
 use lib.Seq.{take-suc, take-all}
 use Rattle.numerals.proofs.DecimalLaws.{decimal-length}
 use Rattle.numerals.specs.Decimal.{decimal}
-use Rattle.desk_output.specs.Line.{Appended, space, newline, numbersText, routeText, mostLine}
-use Rattle.desk_output.proofs.AppendLaws.{appended-more}
+use Rattle.text_put.specs.Put.{Appended, space, newline}
+use Rattle.text_put.proofs.AppendLaws.{appended-more}
+use Rattle.desk_output.specs.Line.{numbersText, routeText, mostLine}
 
 pub numbers-length : (vs : List ℕ) → length (numbersText vs) ≤ length vs * 21
 unfolding numbersText

@@ -1,21 +1,8 @@
 -- The lines of the desk program's output (document 01).
-use mathlib.Core.Path.{_≡_}
 use mathlib.Core.List.{List, [], _∷_, _++_}
 use Prim.Native.Nat.{ℕ, _+_, _*_}
-use lib.ListN.{length}
-use Rattle.words.specs.Part.{patch}
 use Rattle.numerals.specs.Decimal.{decimal}
-
--- Text put into a buffer at a place, and the place after it; the rest of the buffer is as it was.
-pub record Appended (l : List ℕ) (at : ℕ) (text l′ : List ℕ) (next : ℕ) : Type 0 where
-  pub is : l′ ≡ patch at (at + length text) l text
-  pub place : next ≡ at + length text
-
-abbrev pub space : ℕ
-space = 32
-
-abbrev pub newline : ℕ
-newline = 10
+use Rattle.text_put.specs.Put.{space, newline}
 
 -- A space and a number, for each.
 unfoldable pub numbersText : List ℕ → List ℕ

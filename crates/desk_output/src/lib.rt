@@ -1,32 +1,8 @@
 // The desk program's output: lines of text written one after the other into a lent buffer.
-ghost use mathlib.Core.List.{_∷_};
 ghost use Prim.Native.Nat.{_+_, _*_, _≤_};
 ghost use lib.ListN.{length};
-ghost use Rattle.numerals.specs.Decimal.{decimal};
-ghost use Rattle.desk_output.specs.Line.{Appended, space, numbersText, routeText, mostLine};
-
-// The bytes of s at place `at`; the place after them.
-pub fn bytes(out: &mut [u8], at: usize, s: &[u8]) -> usize
-    requires { ⌜ at + length (now s) ≤ length (now out) ⌝ }
-    ensures { λ r. ⌜ Appended (now (out .entry)) at (now (s .entry)) (now (out .exit)) r ⌝ }
-{
-    let mut i = 0;
-    while i < s.len() {
-        out[at + i] = s[i];
-        i += 1;
-    }
-    at + i
-}
-
-// A space and a number.
-fn spaced(out: &mut [u8], at: usize, v: u64) -> usize
-    requires { ⌜ at + 21 ≤ length (now out) ⌝ }
-    ensures { λ r. ⌜ Appended (now (out .entry)) at (space ∷ decimal v)
-        (now (out .exit)) r ⌝ }
-{
-    out[at] = 32;
-    numerals::write(out, at + 1, v)
-}
+ghost use Rattle.text_put.specs.Put.{Appended};
+ghost use Rattle.desk_output.specs.Line.{numbersText, routeText, mostLine};
 
 // A space and a number, for each of the numbers.
 fn numbers(out: &mut [u8], at: usize, vs: &[u32]) -> usize
@@ -37,7 +13,7 @@ fn numbers(out: &mut [u8], at: usize, vs: &[u32]) -> usize
     let mut next = at;
     let mut i = 0;
     while i < vs.len() {
-        next = spaced(out, next, vs[i] as u64);
+        next = text_put::spaced(out, next, vs[i] as u64);
         i += 1;
     }
     next
@@ -50,8 +26,8 @@ pub fn route(out: &mut [u8], at: usize, round: u64, len: u64, labels: u64, arcs:
         (routeText round len labels (now (arcs .entry))) (now (out .exit)) r ⌝ }
 {
     let first = numerals::write(out, at, round);
-    let second = spaced(out, first, len);
-    let third = spaced(out, second, labels);
+    let second = text_put::spaced(out, first, len);
+    let third = text_put::spaced(out, second, labels);
     let last = numbers(out, third, arcs);
     out[last] = 10;
     last + 1

@@ -25,7 +25,7 @@ use Rattle.query.specs.Query.{Input, queryOf, width, reaches, roundsOf, tellsDu
 use Rattle.query.proofs.DecideLaws.{Passed, passed}
 use Rattle.query.proofs.Promises.{reached}
 use Rattle.desk_input.specs.Text.{mostNodesRead}
-use Rattle.desk_output.specs.Line.{Appended}
+use Rattle.text_put.specs.Put.{Appended}
 use Rattle.desk_text.specs.Desk.{deskWords, refusedText, endLines, endText, replyText}
 use Rattle.desk_text.specs.Print.{Shows, Small}
 use Rattle.desk_text.specs.Shown.{Gave, Known, KnownEnd, Shown, ShownEnd}

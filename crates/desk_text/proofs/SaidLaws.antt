@@ -15,7 +15,7 @@ use Rattle.net.specs.Net.{Arc}
 use Rattle.desk_input.specs.Text.{Row, ArcLines, all, bad, withArc, withRow, arcIn, after, lineFrom, arcsFrom, Said, asks, malformed, withArcs, withHeader, said, mostNodesRead, mostArcsRead}
 use Rattle.desk_input.specs.Parsed.{textRead, TextRead}
 use Rattle.desk_input.specs.declared.Asked.{Asked}
-use Rattle.desk_output.specs.Line.{Appended}
+use Rattle.text_put.specs.Put.{Appended}
 use Rattle.outcome.specs.Outcome.{beside}
 use Rattle.table.specs.Table.{recordBytes, tableOf}
 use Rattle.table.proofs.TableLaws.{table-put}

@@ -10,14 +10,15 @@ use native.Mathlib.Omega.{arith}
 use lib.ListN.{length, getD, take, drop, length-append, length-take}
 use Rattle.numerals.specs.Decimal.{decimal}
 use Rattle.numerals.proofs.DecimalLaws.{decimal-length}
-use Rattle.desk_output.specs.Line.{Appended, newline, routeText}
+use Rattle.text_put.specs.Put.{Appended, newline}
+use Rattle.desk_output.specs.Line.{routeText}
 use Rattle.summary.specs.declared.Summary.{Summary}
 use Rattle.summary.specs.declared.Sums.{Sums}
 use Rattle.summary.specs.Sums.{recordAt}
 use Rattle.desk_output.proofs.TextLaws.{route-length}
 use Rattle.desk_text.specs.Desk.{refusedWord, endWord, routesWord, noneWord, hasNumber, besideText, refusedText, headText, noneText}
 use Rattle.desk_text.specs.Lines.{lineAt, linesFrom}
-use Rattle.desk_output.proofs.AppendLaws.{appended-more}
+use Rattle.text_put.proofs.AppendLaws.{appended-more}
 
 -- ---- the parts of each text, one after the other
 

@@ -16,7 +16,8 @@ use Rattle.labels.specs.Field.{labelBytes}
 use Rattle.numerals.specs.Decimal.{decimal}
 use Rattle.desk_input.specs.Text.{mostNodesRead, Said, asks, malformed, said}
 use Rattle.desk_input.specs.declared.Asked.{Asked}
-use Rattle.desk_output.specs.Line.{routeText, newline}
+use Rattle.text_put.specs.Put.{newline}
+use Rattle.desk_output.specs.Line.{routeText}
 use Rattle.query.specs.Query.{Input, input, queryOf, reaches, roundsOf, tellsDue}
 
 -- The fixed words of its output: `refused`, `end`, `routes`, `none`, each with the space that follows it, and for `routes` the one before it.

@@ -6,7 +6,7 @@ use lib.ListN.{length, getD}
 use Rattle.net.specs.Round.{Query, Ending, answered, unanswered, refused}
 use Rattle.net.specs.Outcome.{answers, summaries}
 use Rattle.desk_input.specs.Text.{mostNodesRead}
-use Rattle.desk_output.specs.Line.{Appended}
+use Rattle.text_put.specs.Put.{Appended}
 use Rattle.summary.specs.declared.Sums.{Sums}
 use Rattle.summary.specs.Sums.{firsts}
 use Rattle.query_rounds.specs.Area.{areaWith}

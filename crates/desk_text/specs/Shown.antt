@@ -3,7 +3,7 @@ use mathlib.Core.Path.{_≡_}
 use mathlib.Core.Bool.{true}
 use mathlib.Core.List.{List}
 use Prim.Native.Nat.{ℕ}
-use Rattle.desk_output.specs.Line.{Appended}
+use Rattle.text_put.specs.Put.{Appended}
 use Rattle.query.specs.Query.{Input, queryOf, roundsOf, reaches, Cored}
 use Rattle.query_rounds.specs.declared.Got.{Got}
 use Rattle.desk_text.specs.Desk.{replyText, endLines}

@@ -3,7 +3,7 @@ use mathlib.Core.Path.{_≡_}
 use mathlib.Core.List.{List}
 use Prim.Native.Nat.{ℕ, _≤_, _<_}
 use lib.ListN.{length}
-use Rattle.desk_output.specs.Line.{Appended}
+use Rattle.text_put.specs.Put.{Appended}
 use Rattle.desk_text.specs.Desk.{deskText}
 
 -- The room that any answer fits in.

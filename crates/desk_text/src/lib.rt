@@ -7,7 +7,7 @@ use query_rounds::Got;
 ghost use Prim.Native.Nat.{_≤_};
 ghost use lib.ListN.{length, take};
 ghost use Rattle.desk_input.specs.Text.{mostNodesRead};
-ghost use Rattle.desk_output.specs.Line.{Appended};
+ghost use Rattle.text_put.specs.Put.{Appended};
 ghost use Rattle.desk_text.specs.Desk.{deskWords, readQuery, replyText, deskText};
 ghost use Rattle.desk_text.specs.Shown.{KnownEnd, Known, ShownEnd, Shown};
 ghost use Rattle.desk_text.specs.Written.{Written, mostText};

@@ -3,7 +3,7 @@ use outcome::Told;
 ghost use mathlib.Core.Path.{_≡_};
 ghost use Prim.Native.Nat.{_+_, _*_, _≤_};
 ghost use lib.ListN.{length};
-ghost use Rattle.desk_output.specs.Line.{Appended};
+ghost use Rattle.text_put.specs.Put.{Appended};
 ghost use Rattle.desk_text.specs.Desk.{hasNumber, besideText, refusedText};
 ghost use Rattle.desk_text.specs.Desk.{headText, noneText};
 ghost use Rattle.net.specs.Limits.{mostRoutes};
@@ -42,7 +42,7 @@ pub(crate) fn refused(out: &mut [u8], told: Told) -> usize
     requires { ⌜ mostText ≤ length (now out) ⌝ }
     ensures { λ r. ⌜ Appended (now (out .entry)) 0 (refusedText told) (now (out .exit)) r ⌝ }
 {
-    let first = desk_output::bytes(out, 0, b"refused ");
+    let first = text_put::bytes(out, 0, b"refused ");
     let second = numerals::write(out, first, told.outcome as u64);
     let last = beside(out, second, told.outcome, told.number);
     out[last] = 10;
@@ -71,9 +71,9 @@ fn head(out: &mut [u8], outcome: u32, count: usize) -> usize
     ensures { λ r. ⌜ Appended (now (out .entry)) 0 (headText outcome count)
         (now (out .exit)) r ⌝ }
 {
-    let first = desk_output::bytes(out, 0, b"end ");
+    let first = text_put::bytes(out, 0, b"end ");
     let second = numerals::write(out, first, outcome as u64);
-    let third = desk_output::bytes(out, second, b" routes ");
+    let third = text_put::bytes(out, second, b" routes ");
     let last = numerals::write(out, third, count as u64);
     out[last] = 10;
     last + 1
@@ -110,7 +110,7 @@ fn none(out: &mut [u8], at: usize, labels: u64) -> usize
     requires { ⌜ at + 26 ≤ length (now out) ⌝ }
     ensures { λ r. ⌜ Appended (now (out .entry)) at (noneText labels) (now (out .exit)) r ⌝ }
 {
-    let first = desk_output::bytes(out, at, b"none ");
+    let first = text_put::bytes(out, at, b"none ");
     let last = numerals::write(out, first, labels);
     out[last] = 10;
     last + 1

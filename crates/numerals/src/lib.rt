@@ -72,7 +72,7 @@ pub fn read(text: &[u8], at: usize) -> Numeral
 }
 
 // How many digits v has.
-fn digit_count(v: u64) -> usize
+pub fn digit_count(v: u64) -> usize
     ensures { λ r. ⌜ r ≡ length (decimal v) ⌝ }
 {
     let mut k = 1;
@@ -99,13 +99,22 @@ fn fill_digits(s: &mut [u8], v: u64)
     s[0] = (48 + w) as u8;
 }
 
-// The digits of v at place `at`; the place after them.
-pub fn write(out: &mut [u8], at: usize, v: u64) -> usize
-    requires { ⌜ at + 20 ≤ length (now out) ⌝ }
+// The digits of v at place `at`, where there is room for them; the place after them.
+pub fn put(out: &mut [u8], at: usize, v: u64) -> usize
+    requires { ⌜ at + length (decimal v) ≤ length (now out) ⌝ }
     ensures { λ r. ⌜ (r ≡ at + length (decimal v)) × (now (out .exit)
         ≡ patch at (at + length (decimal v)) (now (out .entry)) (decimal v)) ⌝ }
 {
     let e = at + digit_count(v);
     fill_digits(&mut out[at..e], v);
     e
+}
+
+// The same where there is room for any number.
+pub fn write(out: &mut [u8], at: usize, v: u64) -> usize
+    requires { ⌜ at + 20 ≤ length (now out) ⌝ }
+    ensures { λ r. ⌜ (r ≡ at + length (decimal v)) × (now (out .exit)
+        ≡ patch at (at + length (decimal v)) (now (out .entry)) (decimal v)) ⌝ }
+{
+    put(out, at, v)
 }

@@ -1,4 +1,5 @@
 -- What the exported calls answer, by the definitions of the calls inside.
+use mathlib.Core.Path.{_≡_}
 use mathlib.Core.Bool.{_&&_, cond}
 use mathlib.Core.List.{List}
 use Prim.Native.Nat.{ℕ, _+_, _-_, _*_}
@@ -6,11 +7,14 @@ use lib.Dec.{ltb, eqb}
 use Rattle.table.specs.Table.{recordBytes}
 use Rattle.table.specs.Fault.{tableFault}
 use Rattle.table.specs.Run.{runStart}
+use Rattle.road_made.specs.declared.Made.{Made}
+use Rattle.road_made.specs.Made.{toldOf, bytesMade, nodesMade}
 use Rattle.ojeonbut.specs.declared.Part.{Part}
+use Rattle.ojeonbut.specs.declared.MadeNumbers.{MadeNumbers}
 
 -- The version of the calls: it goes up with every change that a caller can see.
 abbrev pub version : ℕ
-version = 2
+version = 3
 
 -- The run of node v, by the place of its first byte and its number of bytes.
 unfoldable pub runPart : List ℕ → ℕ → Part
@@ -22,3 +26,13 @@ runPart t v = record { place = runStart t v * recordBytes; bytes = runStart t (v
 unfoldable pub partOf : ℕ → List ℕ → ℕ → Part
 unfolding tableFault runPart
 partOf nodes t v = cond (eqb (tableFault nodes t .outcome) 0 && ltb v nodes) (runPart t v) (record { place = 0; bytes = 0 })
+
+-- The four numbers of an answer: an exported call hands out no enum.
+abbrev pub numbersOf : Made → MadeNumbers
+numbersOf made = record { outcome = toldOf made .outcome; number = toldOf made .number; bytes = bytesMade made; nodes = nodesMade made }
+
+-- A call told the numbers of an answer of which this holds.
+pub record Numbered (Answers : Made → Type 0) (told : MadeNumbers) : Type 0 where
+  pub answer : Made
+  pub answers : Answers answer
+  pub told-is : told ≡ numbersOf answer

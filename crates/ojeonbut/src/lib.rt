@@ -1,21 +1,34 @@
 // The calls for programs in C, C++ and Rust. include/ojeonbut.h declares them.
 use outcome::Told;
+use road_made::Made;
 ghost use mathlib.Core.Path.{_≡_};
 ghost use Prim.Native.Nat.{_<_};
 ghost use lib.ListN.{length};
 ghost use Rattle.table.specs.Fault.{tableFault, good};
 ghost use Rattle.closures.specs.Closed.{nextOpen};
 ghost use Rattle.query.specs.Query.{input, inputClosed, Replied};
-ghost use Rattle.ojeonbut.specs.Exported.{version, runPart, partOf};
+ghost use Rattle.road_read.specs.Read.{Read};
+ghost use Rattle.road_write.specs.Written.{Written};
+ghost use Rattle.ojeonbut.specs.Exported.{version, runPart, partOf, numbersOf, Numbered};
 
 // OJEONBUT_VERSION of include/ojeonbut.h.
-const VERSION: u32 = 2;
+const VERSION: u32 = 3;
 
 // A part of a table: the place of its first byte, and its number of bytes.
 #[repr(C)]
 pub struct Part {
     pub place: usize,
     pub bytes: usize,
+}
+
+// What a call that makes a table or a text answers: outcome, the number beside it, the bytes made,
+// and the node count of a table.
+#[repr(C)]
+pub struct MadeNumbers {
+    pub outcome: u32,
+    pub number: u32,
+    pub bytes: usize,
+    pub nodes: u32,
 }
 
 // The version of these calls.
@@ -125,4 +138,44 @@ pub extern "C" fn ojeonbut_next_arc(closed: &[u8], place: usize, end: usize) -> 
     ensures { λ r. ⌜ r ≡ nextOpen (now (closed .entry)) place end ⌝ }
 {
     closures::next_arc(closed, place, end)
+}
+
+// The numbers of an answer.
+fn numbers(made: Made) -> MadeNumbers
+    ensures { λ r. ⌜ r ≡ numbersOf made ⌝ }
+{
+    match made {
+        Made::Done(bytes, nodes) => MadeNumbers {
+            outcome: outcome::FOUND,
+            number: 0,
+            bytes: bytes,
+            nodes: nodes,
+        },
+        Made::Refused(outcome, number) => MadeNumbers {
+            outcome: outcome,
+            number: number,
+            bytes: 0,
+            nodes: 0,
+        },
+    }
+}
+
+// A road file read into a table: its bytes, and the node count.
+#[no_mangle]
+pub extern "C" fn ojeonbut_read_roads(text: &[u8], table: &mut [u8]) -> MadeNumbers
+    ensures { λ r. ⌜ Numbered (λ answer. Read (now (text .entry)) (now (table .entry)) answer
+        (now (table .exit))) r ⌝ }
+{
+    let made = road_read::read(text, table);
+    numbers(made)
+}
+
+// A table of so many nodes written as a road file: the text's bytes.
+#[no_mangle]
+pub extern "C" fn ojeonbut_write_roads(table: &[u8], nodes: u32, text: &mut [u8]) -> MadeNumbers
+    ensures { λ r. ⌜ Numbered (λ answer. Written nodes (now (table .entry)) (now (text .entry))
+        answer (now (text .exit))) r ⌝ }
+{
+    let made = road_write::write(table, nodes, text);
+    numbers(made)
 }

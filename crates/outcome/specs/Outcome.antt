@@ -58,6 +58,10 @@ text = 12
 abbrev pub size : ℕ
 size = 13
 
+-- "malformed file (a node 0 and a wrong number of arcs among the causes), with the line" (02.2)
+abbrev pub file : ℕ
+file = 14
+
 -- "closure bytes of another number than the arcs or with another value" (02.3)
 abbrev pub closures : ℕ
 closures = 15

@@ -37,6 +37,8 @@ pub const TEXT: u32 = 12;
 
 pub const SIZE: u32 = 13;
 
+pub const FILE: u32 = 14;
+
 pub const CLOSURES: u32 = 15;
 
 // An outcome beside which no number is named.

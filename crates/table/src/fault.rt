@@ -14,7 +14,7 @@ pub const MOST_ARCS: usize = 16384;
 pub const MOST_LENGTH: u32 = 1000000;
 
 // The lowest fault of a record, or 0.
-fn fault_of(nodes: u32, prev: u32, from: u32, to: u32, len: u32, zeros: u32) -> u32
+pub fn fault_of(nodes: u32, prev: u32, from: u32, to: u32, len: u32, zeros: u32) -> u32
     ensures { λ r. ⌜ r ≡ faultOf nodes prev from to len zeros ⌝ }
 {
     if nodes <= from {

@@ -10,7 +10,7 @@ pub(crate) fn append(t: &mut [u8], at: usize, s: &[u8]) -> usize {
     if t.len() - at < s.len() {
         return at;
     }
-    desk_output::bytes(t, at, s)
+    text_put::bytes(t, at, s)
 }
 
 // What the desk program prints for the first n bytes.

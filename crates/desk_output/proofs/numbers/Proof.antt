@@ -6,8 +6,9 @@ use native.Mathlib.Omega.{arith}
 use lib.ListN.{length, take, getD}
 use borrow.Author.Needs.{needs}
 use Rattle.numerals.proofs.DecimalLaws.{decimal-length}
-use Rattle.desk_output.specs.Line.{Appended, numbersText}
-use Rattle.desk_output.proofs.AppendLaws.{appended-none}
+use Rattle.text_put.specs.Put.{Appended}
+use Rattle.text_put.proofs.AppendLaws.{appended-none}
+use Rattle.desk_output.specs.Line.{numbersText}
 use Rattle.desk_output.proofs.TextLaws.{numbers-turn, numbers-all}
 use Rattle.desk_output.proofs.numbers.Statement.{statement}
 use Rattle.desk_output.proofs.numbers.Tie as tie
@@ -17,6 +18,12 @@ Inv-loop out₀ at vs next₀ i₀ out next i = (i ≤ length vs) × (length out
 
 abbrev μ-loop : tie.MeasureT-loop
 μ-loop out₀ at vs next₀ i₀ out next i = length vs - i
+
+spaced-requires : tie.Need-spaced-requires Inv-loop μ-loop
+spaced-requires c κs =
+    let a = c .before .before .before in
+    let s = a .before .before .before in
+    omega (arith, decimal-length (getD (s .args .vs .now) (a .loop .i) 0))
 
 loop-again : tie.Need-loop-again Inv-loop μ-loop
 loop-again c =
@@ -42,7 +49,7 @@ numbers-spec =
     (λ c. search needs)
     (λ c. search needs)
     (λ c. omega (arith, c .shared-slice-known2 .given (c .before .before .before .loop .i)))
-    (λ c κs. search needs)
+    spaced-requires
     (λ c. search needs)
     (λ c. search needs)
     loop-again

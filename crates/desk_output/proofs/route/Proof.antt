@@ -5,8 +5,8 @@ use native.Mathlib.Omega.{arith}
 use lib.ListN.{length, length-set}
 use Rattle.numerals.specs.Decimal.{decimal}
 use Rattle.numerals.proofs.DecimalLaws.{decimal-length}
-use Rattle.desk_output.specs.Line.{newline}
-use Rattle.desk_output.proofs.AppendLaws.{appended-by, appended-one, appended-more}
+use Rattle.text_put.specs.Put.{newline}
+use Rattle.text_put.proofs.AppendLaws.{appended-by, appended-one, appended-more}
 use Rattle.desk_output.proofs.TextLaws.{numbers-length, route-parts}
 use Rattle.desk_output.proofs.route.Statement.{statement}
 use Rattle.desk_output.proofs.route.Tie as tie
@@ -61,8 +61,8 @@ route-spec =
     tie.close
     (tie.spec
     (λ c κs. omega arith)
-    (λ c κs. omega (arith, round-most (c .before .before .before)))
-    (λ c κs. omega (arith, len-most (c .before .before .before)))
+    (λ c κs. let w = c .before .before .before in omega (arith, round-most w, decimal-length (start w .args .len)))
+    (λ c κs. let x = c .before .before .before in omega (arith, len-most x, decimal-length (start (first x) .args .labels)))
     (λ c κs. omega (arith, labels-most (c .before .before .before)))
     slice-write-out
     (λ c. omega (arith, slice-write-out c))

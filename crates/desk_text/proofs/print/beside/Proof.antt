@@ -5,8 +5,8 @@ use native.Mathlib.Omega.{arith}
 use lib.ListN.{length-set}
 use borrow.Author.Needs.{needs}
 use Rattle.numerals.specs.Decimal.{decimal}
-use Rattle.desk_output.specs.Line.{space}
-use Rattle.desk_output.proofs.AppendLaws.{appended-length, appended-by, appended-none, appended-one, appended-more}
+use Rattle.text_put.specs.Put.{space}
+use Rattle.text_put.proofs.AppendLaws.{appended-length, appended-by, appended-none, appended-one, appended-more}
 use Rattle.desk_text.proofs.TextLaws.{beside-some, beside-none, beside-length}
 use Rattle.desk_text.proofs.print.beside.Statement.{statement}
 use Rattle.desk_text.proofs.print.beside.Tie as tie

@@ -6,7 +6,7 @@ use native.Mathlib.Nat.{mul-le-mul-right}
 use native.Mathlib.Omega.{arith}
 use borrow.Author.Needs.{needs}
 use Rattle.summary.specs.declared.Summary.{Summary}
-use Rattle.desk_output.proofs.AppendLaws.{appended-more}
+use Rattle.text_put.proofs.AppendLaws.{appended-more}
 use Rattle.desk_text.proofs.TextLaws.{head-length, lines-length}
 use Rattle.desk_text.proofs.RoundsLaws.{end-full, end-less}
 use Rattle.desk_text.proofs.print.ended.Statement.{statement}

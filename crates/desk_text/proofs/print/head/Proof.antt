@@ -6,9 +6,9 @@ use lib.ListN.{length, length-set}
 use borrow.Author.Needs.{needs}
 use Rattle.numerals.specs.Decimal.{decimal}
 use Rattle.numerals.proofs.DecimalLaws.{decimal-length}
-use Rattle.desk_output.specs.Line.{newline}
+use Rattle.text_put.specs.Put.{newline}
 use Rattle.desk_text.specs.Desk.{endWord, routesWord}
-use Rattle.desk_output.proofs.AppendLaws.{appended-by, appended-one, appended-more}
+use Rattle.text_put.proofs.AppendLaws.{appended-by, appended-one, appended-more}
 use Rattle.desk_text.proofs.TextLaws.{head-parts}
 use Rattle.desk_text.proofs.print.head.Statement.{statement}
 use Rattle.desk_text.proofs.print.head.Tie as tie

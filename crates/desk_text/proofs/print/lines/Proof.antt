@@ -5,10 +5,10 @@ use Prim.Native.Nat.{_+_, _*_, _≤_, _-_}
 use native.Mathlib.Omega.{arith}
 use lib.ListN.{length}
 use borrow.Author.Needs.{needs}
-use Rattle.desk_output.specs.Line.{Appended}
+use Rattle.text_put.specs.Put.{Appended}
 use Rattle.summary.specs.declared.Summary.{Summary}
 use Rattle.desk_text.specs.Lines.{linesFrom}
-use Rattle.desk_output.proofs.AppendLaws.{appended-none}
+use Rattle.text_put.proofs.AppendLaws.{appended-none}
 use Rattle.desk_text.proofs.TextLaws.{lines-none, lines-length, lines-turn, slot-in, part-length}
 use Rattle.desk_text.proofs.print.lines.Statement.{statement}
 use Rattle.desk_text.proofs.print.lines.Tie as tie

@@ -1,0 +1,4 @@
+pub mod FeedLaws
+pub mod GrowLaws
+pub mod EndLaws
+pub mod SmallLaws

@@ -1,0 +1,3 @@
+pub mod FillLaws
+pub mod ClearLaws
+pub mod MadeLaws
