@@ -302,6 +302,17 @@ static void work_check(void) { answered = ojeonbut_check(net.table, net.bytes, n
 static void work_arcs_from(void) { answered.number = ojeonbut_arcs_from(net.table, net.bytes, net.nodes, net.nodes / 2).bytes; }
 static void work_query(void) { answered = ask(ojeonbut_query, asked, &of_library); }
 
+/* The same query with ratios, no road closed. */
+static void work_ratios(void)
+{
+    static uint8_t none_closed[OJEONBUT_ARCS];
+    static ojeonbut_ratios ratios[OJEONBUT_ROUTES];
+    const struct query *q = asked;
+    answered = ojeonbut_query_ratios(q->net->table, q->net->bytes, q->net->nodes, q->leg.start, q->leg.goal, q->k, q->a, q->b, none_closed, q->net->bytes / OJEONBUT_RECORD,
+                                     of_library.labels + MARGIN * OJEONBUT_LABEL, q->room * OJEONBUT_LABEL, of_library.area + MARGIN, q->k * (q->net->nodes - 1),
+                                     of_library.summaries + MARGIN, q->k, ratios, q->k);
+}
+
 static uint8_t text[24 * (OJEONBUT_ARCS + 1)], table_again[OJEONBUT_ARCS * OJEONBUT_RECORD];
 static ojeonbut_made written, read_again;
 static void work_write_roads(void) { written = ojeonbut_write_roads(net.table, net.bytes, net.nodes, text, sizeof text); }
@@ -354,12 +365,15 @@ static void stack_of_query(uint32_t longest)
     asked = &q;
     memset(&of_library, JUNK, sizeof of_library);
     memset(&of_baseline, JUNK, sizeof of_baseline);
+    size_t with_ratios = stack_of(work_ratios);
+    memset(&of_library, JUNK, sizeof of_library);
     size_t bytes = stack_of(work_query);
     compare(&q, answered, ask(baseline_query, &q, &of_baseline));
     uint64_t labels = 0;
     for (uint32_t r = 0; r < q.k; r++)
         labels += of_baseline.summaries[MARGIN + r].labels;
-    printf("  ojeonbut_query      %7zu  k = %d, 4/5, 2 + 2 blocks, lengths from 1 to %" PRIu32 ", %" PRIu64 " labels in all\n", bytes, OJEONBUT_ROUTES, longest, labels);
+    printf("  ojeonbut_query      %7zu  k = %d, 4/5, 2 + 2 blocks, lengths from 1 to %" PRIu32 ", %" PRIu64 " labels in all; with ratios %zu\n", bytes, OJEONBUT_ROUTES, longest, labels,
+           with_ratios);
     fflush(stdout);
 }
 

@@ -2,7 +2,7 @@
  *
  * What the caller must ensure, for every call: each pointer is valid for the length given with it and not NULL, also where that length is 0, for
  * writing where it is not const; no buffer that is written overlaps another buffer of the same call; nothing else changes any of them during the call;
- * `area` and `summaries` are aligned for their types. Nothing else: any bytes, any numbers and any lengths are taken, and what is wrong is refused.
+ * `area`, `summaries` and `ratios` are aligned for their types. Nothing else: any bytes, any numbers and any lengths are taken, and what is wrong is refused.
  *
  * The calls keep nothing between them, allocate nothing, and may run in several threads at once on different buffers. docs/FIGURES.md has the stack they need.
  * Link libojeonbut.a, which is for x86-64 Linux. */
@@ -17,7 +17,7 @@ extern "C" {
 #endif
 
 /* The version that this header declares; ojeonbut_version() gives the archive's. It goes up with every change that a caller can see: docs/CHANGES.md. */
-#define OJEONBUT_VERSION 3
+#define OJEONBUT_VERSION 4
 
 /* A road table: arc records of 16 bytes, little-endian: start node, end node, length, four zero bytes; 4 bytes each. Records stand in order of start node.
  * An arc's number is its record's, from 0; a node's is below the node count. */
@@ -42,7 +42,7 @@ enum ojeonbut_outcome {
     OJEONBUT_ENDS = 7,      /* start or goal not below the node count, or equal */
     OJEONBUT_WANTED = 8,    /* k outside 1 to 8 */
     OJEONBUT_THRESHOLD = 9, /* b outside 1 to 1,000, or a not below b */
-    OJEONBUT_BUFFERS = 10,  /* area under k * (nodes - 1) words, fewer than k summaries, or over 65,535 whole labels; the area lent for a table or a text too short */
+    OJEONBUT_BUFFERS = 10,  /* area under k * (nodes - 1) words, fewer than k summaries or ratios, or over 65,535 whole labels; the area lent for a table or a text too short */
     OJEONBUT_ROOM = 11,     /* a round needs more labels than were lent; number: the round, from 1 */
     OJEONBUT_SIZE = 13,     /* node count outside 1 to 4,096, table bytes not a multiple of 16, or over 16,384 records */
     OJEONBUT_FILE = 14,     /* a road file is malformed; number: its first line, from 1, that is none of the permitted ones, or the number a missing line would have */
@@ -66,6 +66,13 @@ typedef struct ojeonbut_summary {
     uint64_t arcs;
     uint64_t labels;
 } ojeonbut_summary;
+
+/* The two figures of a route for the dispatcher's screen: the greatest overlap with an earlier route, over that route's length; and the route's length over the first
+ * route's. Each is one division of two whole numbers, rounded once. */
+typedef struct ojeonbut_ratios {
+    double overlap;
+    double detour;
+} ojeonbut_ratios;
 
 /* What a call for road files made: the bytes of the table or the text and, of a table, its node count. A text has nodes 0; a refusal has bytes and nodes 0. */
 typedef struct ojeonbut_made {
@@ -101,6 +108,12 @@ ojeonbut_reply ojeonbut_query(const uint8_t *table, size_t table_bytes, uint32_t
 ojeonbut_reply ojeonbut_query_closed(const uint8_t *table, size_t table_bytes, uint32_t nodes, uint32_t start, uint32_t goal, uint32_t k, uint32_t a, uint32_t b,
                                      const uint8_t *closed, size_t closed_bytes, uint8_t *labels, size_t label_bytes, uint32_t *area, size_t area_words,
                                      ojeonbut_summary *summaries, size_t summary_count);
+
+/* The query with closures, and the ratios of its routes: `ratios` has at least k records, else the outcome is 10. After 0, 1 or 11 the first k are written: the first route's
+ * are exactly 0 and 1, those of a round without an answer 0 and 0. Records after the k-th are untouched, and a refusal changes none. All else is as ojeonbut_query_closed does it. */
+ojeonbut_reply ojeonbut_query_ratios(const uint8_t *table, size_t table_bytes, uint32_t nodes, uint32_t start, uint32_t goal, uint32_t k, uint32_t a, uint32_t b,
+                                     const uint8_t *closed, size_t closed_bytes, uint8_t *labels, size_t label_bytes, uint32_t *area, size_t area_words,
+                                     ojeonbut_summary *summaries, size_t summary_count, ojeonbut_ratios *ratios, size_t ratio_count);
 
 /* The step along a node's run that the query takes: the first arc from `place` on that is open, or `end` where there is none before it. Past the bytes an arc is open;
  * where `place` is not below `end` it is `end`. Writes nothing. */

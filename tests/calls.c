@@ -12,7 +12,7 @@ enum { CASES = 20000, NODES = 8, ARCS = 16, ROOM = 40, AROUND = 3, JUNK = 0xa5 }
 struct query {
     uint8_t table[(ARCS + 1) * OJEONBUT_RECORD];
     uint8_t closed[ARCS + 2];
-    size_t table_bytes, closed_bytes, label_bytes, area_words, summary_count;
+    size_t table_bytes, closed_bytes, label_bytes, area_words, summary_count, ratio_count;
     uint32_t nodes, start, goal, k, a, b;
 };
 
@@ -20,7 +20,11 @@ struct lent {
     _Alignas(16) uint8_t labels[(AROUND + ROOM + 1 + AROUND) * OJEONBUT_LABEL];
     uint32_t area[AROUND + OJEONBUT_ROUTES * NODES + AROUND];
     ojeonbut_summary summaries[AROUND + OJEONBUT_ROUTES + 2 + AROUND];
+    ojeonbut_ratios ratios[AROUND + OJEONBUT_ROUTES + 2 + AROUND];
 };
+
+/* The three queries. */
+enum manner { PLAIN, CLOSING, RATED, MANNERS };
 
 static uint64_t state = 1;
 
@@ -39,11 +43,11 @@ static void put(uint8_t *p, uint32_t v)
         p[i] = (uint8_t)(v >> 8 * i);
 }
 
-/* A query that no refusal is due to, of few nodes and short lengths, so that ties and parallel arcs are common. */
+/* A query that no refusal is due to, of few nodes and mostly short lengths, so that ties and parallel arcs are common. */
 static struct query draw_query(void)
 {
     struct query q = {.nodes = 2 + draw(NODES - 1), .k = 1 + draw(OJEONBUT_ROUTES)};
-    uint32_t arcs = draw(ARCS + 1), from = 0;
+    uint32_t arcs = draw(ARCS + 1), from = 0, long_ones = draw(4) == 0;
     q.b = 1 + draw(draw(2) ? 5 : 1000);
     q.a = draw(3) ? draw(q.b) : q.b - 1;
     q.start = draw(q.nodes);
@@ -54,7 +58,7 @@ static struct query draw_query(void)
             from++;
         put(record, from);
         put(record + 4, (from + 1 + draw(q.nodes - 1)) % q.nodes);
-        put(record + 8, 1 + draw(4));
+        put(record + 8, long_ones ? OJEONBUT_LENGTH - draw(1000) : 1 + draw(4));
     }
     q.table_bytes = arcs * OJEONBUT_RECORD;
     q.closed_bytes = arcs;
@@ -64,6 +68,7 @@ static struct query draw_query(void)
     q.label_bytes = draw(ROOM + 1) * OJEONBUT_LABEL + draw(OJEONBUT_LABEL);
     q.area_words = q.k * (q.nodes - 1) + draw(4);
     q.summary_count = q.k + draw(3);
+    q.ratio_count = q.k + draw(3);
     return q;
 }
 
@@ -88,6 +93,7 @@ static void spoil(struct query *q)
     case 13: q->table_bytes += 1 + draw(15); break;
     case 14: q->closed_bytes = draw(2) ? q->closed_bytes + 1 : q->closed_bytes ? draw((uint32_t)q->closed_bytes) : 1; break;
     case 15: q->closed[draw(ARCS)] = (uint8_t)(2 + draw(254)); break;
+    case 16: q->ratio_count = q->k - 1; break;
     default: break;
     }
 }
@@ -122,13 +128,13 @@ static bool wrong_closures(const struct query *q)
     return q->closed_bytes != q->table_bytes / OJEONBUT_RECORD;
 }
 
-/* The refusal due to a query, with closures or without, or outcome 0. */
-static ojeonbut_reply refusal(const struct query *q, bool closing)
+/* The refusal due to a query, or outcome 0. */
+static ojeonbut_reply refusal(const struct query *q, enum manner manner)
 {
     ojeonbut_reply r = table_fault(q);
     if (r.outcome)
         return r;
-    if (closing && wrong_closures(q))
+    if (manner != PLAIN && wrong_closures(q))
         return (ojeonbut_reply){OJEONBUT_CLOSURES, 0};
     if (q->start >= q->nodes || q->goal >= q->nodes || q->start == q->goal)
         r.outcome = OJEONBUT_ENDS;
@@ -136,7 +142,7 @@ static ojeonbut_reply refusal(const struct query *q, bool closing)
         r.outcome = OJEONBUT_WANTED;
     else if (q->b < 1 || q->b > 1000 || q->a >= q->b)
         r.outcome = OJEONBUT_THRESHOLD;
-    else if (q->area_words < q->k * (q->nodes - 1) || q->summary_count < q->k || q->label_bytes / OJEONBUT_LABEL > OJEONBUT_LABELS)
+    else if (q->area_words < q->k * (q->nodes - 1) || q->summary_count < q->k || (manner == RATED && q->ratio_count < q->k) || q->label_bytes / OJEONBUT_LABEL > OJEONBUT_LABELS)
         r.outcome = OJEONBUT_BUFFERS;
     return r;
 }
@@ -158,19 +164,56 @@ static ojeonbut_reply ask_closed(closed_call *call, const struct query *q, struc
                 m->area + AROUND, q->area_words, m->summaries + AROUND, q->summary_count);
 }
 
-/* The call with closures or the one without. */
-static bool query_as_due(const struct query *q, bool closing, ojeonbut_reply *got)
+static ojeonbut_reply ask_ratios(const struct query *q, struct lent *m)
+{
+    return ojeonbut_query_ratios(q->table, q->table_bytes, q->nodes, q->start, q->goal, q->k, q->a, q->b, q->closed, q->closed_bytes, m->labels + AROUND * OJEONBUT_LABEL,
+                                 q->label_bytes, m->area + AROUND, q->area_words, m->summaries + AROUND, q->summary_count, m->ratios + AROUND, q->ratio_count);
+}
+
+/* The length of the arcs that stand on both slots. */
+static uint64_t overlap(const struct query *q, const uint32_t *slot, const uint32_t *earlier)
+{
+    uint64_t sum = 0;
+    for (uint32_t i = 0; i + 1 < q->nodes && slot[i] != OJEONBUT_NONE; i++)
+        for (uint32_t j = 0; j + 1 < q->nodes; j++)
+            if (slot[i] == earlier[j])
+                sum += word(q->table + slot[i] * OJEONBUT_RECORD + 8);
+    return sum;
+}
+
+/* The ratios of routes and summaries that are known: the same divisions, in C. */
+static void due_ratios(const struct query *q, struct lent *m)
+{
+    for (uint32_t i = 0; i < q->k; i++) {
+        const ojeonbut_summary *of = m->summaries + AROUND;
+        const uint32_t *slots = m->area + AROUND;
+        uint64_t over = 0, under = 1;
+        for (uint32_t j = 0; j < i && of[i].arcs; j++) {
+            uint64_t sum = overlap(q, slots + i * (q->nodes - 1), slots + j * (q->nodes - 1));
+            if (sum * under > over * of[j].length) {
+                over = sum;
+                under = of[j].length;
+            }
+        }
+        m->ratios[AROUND + i] = of[i].arcs ? (ojeonbut_ratios){(double)over / (double)under, (double)of[i].length / (double)of[0].length} : (ojeonbut_ratios){0, 0};
+    }
+}
+
+/* One of the three queries. */
+static bool query_as_due(const struct query *q, enum manner manner, ojeonbut_reply *got)
 {
     static struct lent due, found;
     memset(&due, JUNK, sizeof due);
     memset(&found, JUNK, sizeof found);
-    ojeonbut_reply r = refusal(q, closing);
+    ojeonbut_reply r = refusal(q, manner);
     if (!r.outcome) {
-        r = closing ? ask_closed(baseline_query_closed, q, &due) : ask(baseline_query, q, &due);
+        r = manner == PLAIN ? ask(baseline_query, q, &due) : ask_closed(baseline_query_closed, q, &due);
         memset(due.labels, JUNK, sizeof due.labels);
         memset(due.labels + AROUND * OJEONBUT_LABEL, 0, q->label_bytes);
+        if (manner == RATED)
+            due_ratios(q, &due);
     }
-    *got = closing ? ask_closed(ojeonbut_query_closed, q, &found) : ask(ojeonbut_query, q, &found);
+    *got = manner == PLAIN ? ask(ojeonbut_query, q, &found) : manner == CLOSING ? ask_closed(ojeonbut_query_closed, q, &found) : ask_ratios(q, &found);
     return got->outcome == r.outcome && got->number == r.number && memcmp(&due, &found, sizeof due) == 0;
 }
 
@@ -211,7 +254,7 @@ static bool table_as_due(const struct query *q)
 
 static void print_query(const struct query *q, ojeonbut_reply r)
 {
-    printf("the first difference, of the call with closures or of another: %u nodes, start %u, goal %u, k %u, threshold %u/%u, %zu label bytes, %zu words, %zu summaries, %zu table bytes, %zu closure bytes; got %u %u\n", q->nodes,
+    printf("the first difference, of one of the queries or of another call: %u nodes, start %u, goal %u, k %u, threshold %u/%u, %zu label bytes, %zu words, %zu summaries, %zu table bytes, %zu closure bytes; got %u %u\n", q->nodes,
            q->start, q->goal, q->k, q->a, q->b, q->label_bytes, q->area_words, q->summary_count, q->table_bytes, q->closed_bytes, r.outcome, r.number);
     for (size_t i = 0; i < q->table_bytes / OJEONBUT_RECORD; i++)
         printf("  arc %zu: %u %u %u %u, closure %u\n", i, word(q->table + i * OJEONBUT_RECORD), word(q->table + i * OJEONBUT_RECORD + 4), word(q->table + i * OJEONBUT_RECORD + 8),
@@ -235,15 +278,21 @@ int main(void)
     uint32_t as_due = 0, outcomes[OJEONBUT_CLOSURES + 1] = {0};
     for (uint32_t i = 0; i < CASES; i++) {
         struct query q = draw_query();
-        ojeonbut_reply r, c;
         spoil(&q);
-        bool plain = query_as_due(&q, false, &r), closing = query_as_due(&q, true, &c);
-        if (plain && closing && table_as_due(&q) && steps_as_due(&q))
+        bool right = table_as_due(&q) && steps_as_due(&q);
+        ojeonbut_reply wrong = {0, 0};
+        for (enum manner manner = PLAIN; manner < MANNERS; manner++) {
+            ojeonbut_reply r;
+            if (!query_as_due(&q, manner, &r)) {
+                right = false;
+                wrong = r;
+            }
+            outcomes[r.outcome <= OJEONBUT_CLOSURES ? r.outcome : 12]++;
+        }
+        if (right)
             as_due++;
         else if (as_due == i)
-            print_query(&q, plain ? c : r);
-        outcomes[r.outcome <= OJEONBUT_CLOSURES ? r.outcome : 12]++;
-        outcomes[c.outcome <= OJEONBUT_CLOSURES ? c.outcome : 12]++;
+            print_query(&q, wrong);
     }
     bool limit = limit_as_due(), version = ojeonbut_version() == OJEONBUT_VERSION;
     printf("version %s; drawn cases %d, as due %u; the limit of labels %s\noutcomes:", version ? "as due" : "NOT as due", CASES, as_due, limit ? "as due" : "NOT as due");

@@ -2,7 +2,7 @@
 //! What that header asks of a caller, Rust's slices ensure: they are valid for their lengths, and a `&mut` one overlaps no other.
 
 /// The version of include/ojeonbut.h that these calls are for. Each call asks once that the archive linked is of it, and panics where it is not.
-pub const VERSION: u32 = 3;
+pub const VERSION: u32 = 4;
 
 /// The outcomes, by number. What the number beside each says is in include/ojeonbut.h.
 pub mod outcome {
@@ -61,6 +61,14 @@ pub struct Summary {
     pub labels: u64,
 }
 
+/// The two figures of a route: the greatest overlap with an earlier route over that one's length, and its length over the first route's. Each is one division, rounded once.
+#[repr(C)]
+#[derive(Clone, Copy, Debug, Default, PartialEq)]
+pub struct Ratios {
+    pub overlap: f64,
+    pub detour: f64,
+}
+
 /// What a call for road files made: the bytes of the table or the text and, of a table, its node count. A refusal has bytes and nodes 0.
 #[repr(C)]
 #[derive(Clone, Copy, Debug, PartialEq, Eq)]
@@ -72,7 +80,7 @@ pub struct Made {
 }
 
 mod raw {
-    use super::{Made, Part, Reply, Summary};
+    use super::{Made, Part, Ratios, Reply, Summary};
 
     extern "C" {
         pub fn ojeonbut_version() -> u32;
@@ -111,6 +119,26 @@ mod raw {
             area_words: usize,
             summaries: *mut Summary,
             summary_count: usize,
+        ) -> Reply;
+        pub fn ojeonbut_query_ratios(
+            table: *const u8,
+            table_bytes: usize,
+            nodes: u32,
+            start: u32,
+            goal: u32,
+            k: u32,
+            a: u32,
+            b: u32,
+            closed: *const u8,
+            closed_bytes: usize,
+            labels: *mut u8,
+            label_bytes: usize,
+            area: *mut u32,
+            area_words: usize,
+            summaries: *mut Summary,
+            summary_count: usize,
+            ratios: *mut Ratios,
+            ratio_count: usize,
         ) -> Reply;
         pub fn ojeonbut_next_arc(closed: *const u8, closed_bytes: usize, place: usize, end: usize) -> usize;
         pub fn ojeonbut_read_roads(text: *const u8, text_bytes: usize, table: *mut u8, table_bytes: usize) -> Made;
@@ -213,6 +241,47 @@ pub fn query_closed(
             area.len(),
             summaries.as_mut_ptr(),
             summaries.len(),
+        )
+    }
+}
+
+/// The query while roads are closed, with the ratios of its routes.
+#[allow(clippy::too_many_arguments)]
+pub fn query_ratios(
+    table: &[u8],
+    nodes: u32,
+    start: u32,
+    goal: u32,
+    k: u32,
+    threshold: (u32, u32),
+    closed: &[u8],
+    labels: &mut [u8],
+    area: &mut [u32],
+    summaries: &mut [Summary],
+    ratios: &mut [Ratios],
+) -> Reply {
+    ask_version();
+    // SAFETY: each slice is valid for its length; the four that are written are borrowed mutably, so they overlap nothing.
+    unsafe {
+        raw::ojeonbut_query_ratios(
+            table.as_ptr(),
+            table.len(),
+            nodes,
+            start,
+            goal,
+            k,
+            threshold.0,
+            threshold.1,
+            closed.as_ptr(),
+            closed.len(),
+            labels.as_mut_ptr(),
+            labels.len(),
+            area.as_mut_ptr(),
+            area.len(),
+            summaries.as_mut_ptr(),
+            summaries.len(),
+            ratios.as_mut_ptr(),
+            ratios.len(),
         )
     }
 }

@@ -1,5 +1,5 @@
 //! The scope's example through the safe calls.
-use ojeonbut::{arcs_from, check, next_arc, outcome, query, query_closed, read_roads, version, write_roads, Made, Reply, Summary, VERSION};
+use ojeonbut::{arcs_from, check, next_arc, outcome, query, query_closed, query_ratios, read_roads, version, write_roads, Made, Ratios, Reply, Summary, VERSION};
 
 const NONE: u32 = u32::MAX;
 
@@ -48,6 +48,24 @@ fn closed_roads() {
     let rows: Vec<_> = summaries.iter().map(|s| (s.length, s.arcs, s.labels)).collect();
     assert_eq!(rows, [(5, 2, 3), (0, 0, 1)]);
     assert_eq!((next_arc(&[1, 0, 1], 0, 3), next_arc(&[1, 0, 1], 2, 3), next_arc(&[], 2, 3), next_arc(&[], 4, 3)), (1, 3, 2, 3));
+}
+
+#[test]
+fn ratios() {
+    let table = table();
+    let mut labels = vec![85u8; 512 * 96];
+    let mut area = [7u32; 12];
+    let mut summaries = [Summary { length: 7, arcs: 7, labels: 7 }; 4];
+    let seven = Ratios { overlap: 7.0, detour: 7.0 };
+    let mut shown = [seven; 5];
+    let few = query_ratios(&table, 4, 0, 3, 4, (1, 2), &[0; 5], &mut labels, &mut area, &mut summaries, &mut shown[..3]);
+    assert_eq!(few, Reply { outcome: outcome::BUFFERS, number: 0 });
+    assert_eq!((labels[0], area, shown), (85, [7; 12], [seven; 5]));
+    let r = query_ratios(&table, 4, 0, 3, 4, (1, 2), &[0; 5], &mut labels, &mut area, &mut summaries, &mut shown);
+    assert_eq!(r, Reply { outcome: outcome::FEWER, number: 0 });
+    let bits: Vec<_> = shown.iter().map(|x| (x.overlap.to_bits(), x.detour.to_bits())).collect();
+    let due = [(0.0, 1.0), (0.5, 1.25), (0.4, 1.25), (0.0, 0.0), (7.0, 7.0)].map(|x: (f64, f64)| (x.0.to_bits(), x.1.to_bits()));
+    assert_eq!(bits, due);
 }
 
 #[test]

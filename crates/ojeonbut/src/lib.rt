@@ -2,17 +2,18 @@
 use outcome::Told;
 use road_made::Made;
 ghost use mathlib.Core.Path.{_≡_};
-ghost use Prim.Native.Nat.{_<_};
+ghost use Prim.Native.Nat.{_<_, min};
 ghost use lib.ListN.{length};
 ghost use Rattle.table.specs.Fault.{tableFault, good};
 ghost use Rattle.closures.specs.Closed.{nextOpen};
 ghost use Rattle.query.specs.Query.{input, inputClosed, Replied};
+ghost use Rattle.query_ratios.specs.Rated.{RepliedRatios};
 ghost use Rattle.road_read.specs.Read.{Read};
 ghost use Rattle.road_write.specs.Written.{Written};
 ghost use Rattle.ojeonbut.specs.Exported.{version, runPart, partOf, numbersOf, Numbered};
 
 // OJEONBUT_VERSION of include/ojeonbut.h.
-const VERSION: u32 = 3;
+const VERSION: u32 = 4;
 
 // A part of a table: the place of its first byte, and its number of bytes.
 #[repr(C)]
@@ -129,6 +130,52 @@ pub extern "C" fn ojeonbut_query_closed(
     let x = g.sums;
     let n = g.n;
     summary::write(sums, x, n);
+    g.told
+}
+
+// The query over the open arcs, with two ratios for each route.
+#[no_mangle]
+pub extern "C" fn ojeonbut_query_ratios(
+    table: &[u8],
+    nodes: u32,
+    s: u32,
+    goal: u32,
+    k: u32,
+    a: u32,
+    b: u32,
+    closed: &[u8],
+    labels: &mut [u8],
+    area: &mut [u32],
+    sums: &mut [summary::Summary],
+    shown: &mut [ratios::Ratios],
+) -> Told
+    ensures { λ r. ⌜ RepliedRatios (inputClosed (now (table .entry)) nodes s goal k a b
+        (now (closed .entry)) (now (labels .entry))
+        (now (area .entry)) (min (length (now (sums .entry))) (length (now (shown .entry))))) r
+        (now (labels .exit)) (now (area .exit)) (now (sums .entry)) (now (sums .exit))
+        (now (shown .entry)) (now (shown .exit)) ⌝ }
+{
+    let lent = sums.len();
+    let rated = shown.len();
+    let g = query_ratios::core_ratios(
+        table,
+        nodes,
+        s,
+        goal,
+        k,
+        a,
+        b,
+        closed,
+        labels,
+        area,
+        lent,
+        rated,
+    );
+    let x = g.sums;
+    let y = g.rows;
+    let n = g.n;
+    summary::write(sums, x, n);
+    ratios::write(shown, y, n);
     g.told
 }
 

@@ -56,7 +56,7 @@ length-slotOf w p h = omega (arith, length-append p (replicate (w - length p) no
 
 -- ---- the arcs of a chain are the net's
 
-chain-arcs : (net : Net) (s : ℕ) (p : List ℕ) → T (chain net s p) → (a : ℕ) → List·Memᴰ a p → a < length (net .arcs)
+pub chain-arcs : (net : Net) (s : ℕ) (p : List ℕ) → T (chain net s p) → (a : ℕ) → List·Memᴰ a p → a < length (net .arcs)
 chain-arcs net s (b ∷ p) h a (List·Memᴰ·head e) = subst (λ x. x < length (net .arcs)) (sym e) (leaves-e net s b (chain-cons net s b p h .0) .is-arc)
 chain-arcs net s (b ∷ p) h a (List·Memᴰ·tail m) = chain-arcs net (arc (net .arcs) b .to) p (chain-cons net s b p h .1) a m
 

@@ -28,7 +28,7 @@ fn stands_on(slot: &[u32], arc: u32) -> bool
 }
 
 // What an arc adds to the overlap with the route in the slot.
-fn shared(table: &[u8], ask: Ask, slot: &[u32], arc: usize) -> u64
+pub fn shared(table: &[u8], ask: Ask, slot: &[u32], arc: usize) -> u64
     requires { ⌜ (Accepted ask (now table)) × (arc < records (now table)) ⌝ }
     ensures { λ r. ⌜ r ≡ overlap (netFor ask (now (table .entry)) []) (arc ∷ [])
         (routeIn (now (slot .entry))) ⌝ }

@@ -1,0 +1,7 @@
+pub mod Filled
+pub mod QuotientLaws
+pub mod GreatestLaws
+pub mod ShareLaws
+pub mod RouteLaws
+pub mod AnsweredLaws
+pub mod RowsLaws

@@ -1,0 +1,3 @@
+pub mod Ratios
+pub mod Rows
+pub mod Routes
