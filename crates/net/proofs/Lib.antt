@@ -17,3 +17,6 @@ pub mod Turns
 pub mod Labels
 pub mod Bound
 pub mod Unused
+pub mod RoundLaws
+pub mod Longer
+pub mod LongerFigures

@@ -124,6 +124,12 @@ module _ (i : Input) (h : reaches i ≡ true) where
             ∙ ap (λ l. map asRecord l ++ drop (i .k) sums₀) (sums-are (queryOf i) (i .k) []);
       }
 
+  -- its routes are the answers of the rounds
+  pub whole-routes : (x : Told) (labels′ area′ : List ℕ) (sums₀ sums′ : List Summary) (r : Replied i x labels′ area′ sums₀ sums′)
+      → whole x labels′ area′ sums₀ sums′ r .routes ≡ answers (roundsOf i)
+  unfolding whole
+  whole-routes x labels′ area′ sums₀ sums′ r = refl
+
   -- slot j holds the answer of round j, from 0, or nothing
   pub slot-holds : (x : Told) (labels′ area′ : List ℕ) (sums₀ sums′ : List Summary) (w : Whole i x labels′ area′ sums₀ sums′) (j : ℕ) → j < i .k
       → slot (width i) j area′ ≡ slotOf (width i) (getD (w .routes) j [])

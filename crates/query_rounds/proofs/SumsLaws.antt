@@ -81,7 +81,7 @@ firsts-take t k (suc n) h = ⊎-elim
     subst (λ i. take i (firsts t (suc n)) ≡ firsts t i) e (lib.Seq.take-all (suc n) (firsts t (suc n)) (omega (arith, length-firsts t (suc n)))))
     (order k n)
 
-take-map : {A B : Type 0} (f : A → B) (n : ℕ) (xs : List A) → take n (map f xs) ≡ map f (take n xs)
+pub take-map : {A B : Type 0} (f : A → B) (n : ℕ) (xs : List A) → take n (map f xs) ≡ map f (take n xs)
 take-map f zero xs = refl
 take-map f (suc n) [] = refl
 take-map f (suc n) (x ∷ xs) = ap (λ l. f x ∷ l) (take-map f n xs)
