@@ -22,13 +22,15 @@ use Rattle.net.specs.Outcome.{goOn, roundsBy, rounds, summary}
 use Rattle.net.proofs.Valid.{Valid}
 use Rattle.labels.specs.Field.{noNumber}
 use Rattle.search_ask.specs.Earlier.{routeIn, earlierIn, Earlier}
+use Rattle.round.specs.declared.Ended.{Ended}
 use Rattle.round.specs.declared.Ended.the-variants.{Answer, NoAnswer, Refused}
 use Rattle.round.specs.Round.{shown, areaAfter}
 use Rattle.round.proofs.EarlierLaws.{here, there, length-area, earlier-more, earlier-kept}
 use Rattle.query_rounds.specs.Area.{areaWith}
 use Rattle.summary.specs.declared.Summary.{Summary}
 use Rattle.summary.specs.Sums.{setAt}
-use Rattle.query_rounds.specs.Progress.{asRecord, answeredIn, lastRound, toCome, madeIn, Underway, Slotted, Stepped}
+use Rattle.query_rounds.specs.Progress.{asRecord, answeredIn, lastRound, toCome, madeIn, Underway, Slotted, Stepped, afterOf}
+use Rattle.query_rounds.specs.declared.Added.{Added}
 use Rattle.query_rounds.specs.declared.Progress.{Progress}
 use Rattle.query_rounds.proofs.AreaLaws.{area-more}
 use Rattle.query_rounds.proofs.SumsLaws.{Shows, shows-more}
@@ -304,3 +306,17 @@ module _ (q : Query) (k : ℕ) (area : List ℕ) (x : Progress) (on : Stepping q
   stepped-refused ends area′ is =
       let f = shown-refused q (ending q (earlierIn w (x .r) area)) ends in
       stepped-over refused (q .room) 3 f refl (omega arith) refl (λ e. refl) refl area′ (is ∙ ap (areaAfter w (x .r) area) f) refl
+
+  -- ---- whichever it was
+
+  -- what a round adds, over the summaries so far
+  abbrev over : Added → Progress
+  over y = record { r = y .r; stage = y .stage; sums = setAt (x .sums) (x .r) (y .row) }
+
+  pub stepped-after : (e : Ended) → e ≡ shown q (ending q (earlierIn w (x .r) area)) → (area′ : List ℕ) → area′ ≡ areaAfter w (x .r) area (ending q (earlierIn w (x .r) area))
+      → (room : ℕ) → room ≡ q .room → (y : Added) → y ≡ afterOf e (x .r) k room
+      → Stepped q w k area x area′ (over y)
+  stepped-after (Answer l m n) ends area′ is room i y a = subst (λ v. Stepped q w k area x area′ (over v)) (sym a) (stepped-answer l m n ends area′ is)
+  stepped-after (NoAnswer n) ends area′ is room i y a = subst (λ v. Stepped q w k area x area′ (over v)) (sym a) (stepped-none n ends area′ is)
+  stepped-after Refused ends area′ is room i y a =
+      subst (λ v. Stepped q w k area x area′ (over v)) (sym (a ∙ ap (afterOf Refused (x .r) k) i)) (stepped-refused ends area′ is)

@@ -1,7 +1,9 @@
 -- A query between two rounds.
 use mathlib.Core.Path.{_≡_}
+use mathlib.Core.Bool.{cond}
 use mathlib.Core.List.{List, [], _∷_, _++_, map}
 use Prim.Native.Nat.{ℕ, zero, suc, _+_, _-_, _*_, _<_, _≤_}
+use lib.Dec.{eqb}
 use lib.ListN.{length, getD, replicate}
 use Rattle.lists.specs.Tests.{upFrom}
 use Rattle.words.specs.Part.{slot}
@@ -13,9 +15,12 @@ use Rattle.net.specs.Outcome.{rounds, summary, notBegun}
 use Rattle.search_ask.specs.declared.Ask.{Ask}
 use Rattle.search_ask.specs.Ask.{Accepted, roomIn, width}
 use Rattle.search_ask.specs.Earlier.{routeIn, earlierIn, Earlier}
+use Rattle.round.specs.declared.Ended.{Ended}
+use Rattle.round.specs.declared.Ended.the-variants.{Answer, NoAnswer, Refused}
 use Rattle.summary.specs.declared.Summary.{Summary}
 use Rattle.summary.specs.Sums.{firsts}
 use Rattle.query_rounds.specs.Area.{areaWith}
+use Rattle.query_rounds.specs.declared.Added.{Added}
 use Rattle.query_rounds.specs.declared.Progress.{Progress}
 
 -- What the rounds of a query ask: an accepted ask, no more room than labels may have, and slots for the wanted routes.
@@ -69,6 +74,13 @@ pub record Stepped (q : Query) (w k : ℕ) (area : List ℕ) (x : Progress) (are
   pub underway : Underway q w k area′ y
   pub slots : Slotted w k area (x .r) area′ (y .r)
   pub less : k - y .r + (1 - y .stage) < k - x .r + (1 - x .stage)
+
+-- What a round that ended so adds to a progress of r answers out of k wanted: one answer more, and stage 1 with the last of them; stage 2 where there is none; stage 3
+-- where it was refused, with the room for labels as its count.
+abbrev pub afterOf : Ended → ℕ → ℕ → ℕ → Added
+afterOf (Answer l m n) r k room = record { r = r + 1; stage = cond (eqb (r + 1) k) 1 0; row = record { length = l; arcs = m; labels = n } }
+afterOf (NoAnswer n) r k room = record { r = r; stage = 2; row = record { length = 0; arcs = 0; labels = n } }
+afterOf Refused r k room = record { r = r; stage = 3; row = record { length = 0; arcs = 0; labels = room } }
 
 -- What each stage that ends a query tells after r answers: 0 after k of them; 1; 11 with the number of the refused round, from 1.
 abbrev pub outcomeAt : ℕ → ℕ → Told

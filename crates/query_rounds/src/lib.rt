@@ -7,12 +7,12 @@ use summary::Sums;
 ghost use mathlib.Core.Path.{_≡_};
 ghost use mathlib.Core.Bool.{cond};
 ghost use mathlib.Core.Logic.{_≢_};
-ghost use Prim.Native.Nat.{_≤_};
+ghost use Prim.Native.Nat.{_<_, _≤_};
 ghost use lib.Dec.{eqb};
 ghost use lib.ListN.{length};
 ghost use Rattle.net.specs.Limits.{mostRoutes};
 ghost use Rattle.search_ask.specs.Ask.{queryFor, width};
-ghost use Rattle.query_rounds.specs.Progress.{Wanted, Underway, Stepped, outcomeAt};
+ghost use Rattle.query_rounds.specs.Progress.{Wanted, Underway, Stepped, afterOf, outcomeAt};
 ghost use Rattle.query_rounds.specs.Finished.{Finished};
 
 // The outcome, the summaries, and how many of them are to be written: none under a refusal.
@@ -22,11 +22,19 @@ pub struct Got {
     pub n: usize,
 }
 
-// How many rounds were answered, the stage, and the summaries.
+// How many rounds were answered, the summaries, and the stage (last, so that no padding stands
+// before the summaries).
 pub struct Progress {
     pub r: usize,
-    pub stage: u8,
     pub sums: Sums,
+    pub stage: u8,
+}
+
+// What a round adds to the progress: the new number of answers, the stage, and its summary.
+struct Added {
+    r: usize,
+    stage: u8,
+    row: Summary,
 }
 
 pub const GOING: u8 = 0;
@@ -42,6 +50,42 @@ fn stage_after(r: usize, k: usize) -> u8
     ensures { λ y. ⌜ y ≡ cond (eqb r k) 1 0 ⌝ }
 {
     if r == k { FOUND } else { GOING }
+}
+
+// What a round that ended so adds to a progress of r answers; `room` is the room for labels.
+fn after(e: Ended, r: usize, k: usize, room: usize) -> Added
+    requires { ⌜ r < mostRoutes ⌝ }
+    ensures { λ y. ⌜ y ≡ afterOf e r k room ⌝ }
+{
+    match e {
+        Ended::Answer(l, m, n) => Added {
+            r: r + 1,
+            stage: stage_after(r + 1, k),
+            row: Summary {
+                length: l,
+                arcs: m as u64,
+                labels: n as u64,
+            },
+        },
+        Ended::NoAnswer(n) => Added {
+            r: r,
+            stage: FEWER,
+            row: Summary {
+                length: 0,
+                arcs: 0,
+                labels: n as u64,
+            },
+        },
+        Ended::Refused => Added {
+            r: r,
+            stage: REFUSED,
+            row: Summary {
+                length: 0,
+                arcs: 0,
+                labels: room as u64,
+            },
+        },
+    }
 }
 
 // One round more.
@@ -65,43 +109,11 @@ pub fn step(
     let sums = x.sums;
     let lens = sums.length;
     let e = round::round(table, closed, ask, area, &lens[0..r], labels);
-    match e {
-        Ended::Answer(l, m, n) => {
-            let row = Summary {
-                length: l,
-                arcs: m as u64,
-                labels: n as u64,
-            };
-            Progress {
-                r: r + 1,
-                stage: stage_after(r + 1, k),
-                sums: summary::with(sums, r, row),
-            }
-        }
-        Ended::NoAnswer(n) => {
-            let row = Summary {
-                length: 0,
-                arcs: 0,
-                labels: n as u64,
-            };
-            Progress {
-                r: r,
-                stage: FEWER,
-                sums: summary::with(sums, r, row),
-            }
-        }
-        Ended::Refused => {
-            let row = Summary {
-                length: 0,
-                arcs: 0,
-                labels: (labels.len() / labels::field::LABEL) as u64,
-            };
-            Progress {
-                r: r,
-                stage: REFUSED,
-                sums: summary::with(sums, r, row),
-            }
-        }
+    let y = after(e, r, k, labels.len() / labels::field::LABEL);
+    Progress {
+        r: y.r,
+        sums: summary::with(sums, r, y.row),
+        stage: y.stage,
     }
 }
 
@@ -119,6 +131,17 @@ fn tell(stage: u8, r: usize) -> Told
     Told {
         outcome: outcome::ROOM,
         number: r as u32 + 1,
+    }
+}
+
+// The summaries are an argument here, for a variable of their own is one more copy on the stack.
+fn got_of(told: Told, sums: Sums, n: usize) -> Got
+    ensures { λ g. ⌜ g ≡ record { told = told; sums = sums; n = n } ⌝ }
+{
+    Got {
+        told: told,
+        sums: sums,
+        n: n,
     }
 }
 
@@ -143,21 +166,16 @@ pub fn all(
     let zeros = [0u64; summary::MOST_ROUTES];
     let mut x = Progress {
         r: 0,
-        stage: GOING,
         sums: Sums {
             length: zeros,
             arcs: zeros,
             labels: zeros,
         },
+        stage: GOING,
     };
     while x.stage == GOING {
         x = step(table, closed, ask, k, labels, area, x);
     }
     words::fill::fill8(labels, 0);
-    let sums = x.sums;
-    Got {
-        told: tell(x.stage, x.r),
-        sums: sums,
-        n: k,
-    }
+    got_of(tell(x.stage, x.r), x.sums, k)
 }

@@ -3,51 +3,14 @@ use search_ask::Ask;
 use search_ask::Candidate;
 ghost use mathlib.Core.Path.{_≡_};
 ghost use mathlib.Core.List.{[], _∷_, _++_};
-ghost use Prim.Native.Nat.{suc, _<_};
-ghost use lib.ListN.{length, take};
+ghost use Prim.Native.Nat.{_<_};
+ghost use lib.ListN.{length};
 ghost use Rattle.net.specs.Limits.{mostNodes};
 ghost use Rattle.net.specs.Route.{lengthOf, numbersFirst, precedes};
 ghost use Rattle.table.specs.Table.{arcsOf};
 ghost use Rattle.labels.specs.Chain.{chainAt};
 ghost use Rattle.labels.specs.Standing.{Down};
 ghost use Rattle.search_ask.specs.Ask.{Searching, Among, chainOf};
-
-// A candidate has at most as many arcs as a table may have nodes.
-const MOST_CHAIN: usize = 4096;
-
-// Whether the numbers of p come first, compared from the start.
-fn numbers_first(p: &[u32], q: &[u32]) -> bool
-    ensures { λ r. ⌜ r ≡ numbersFirst (now (p .entry)) (now (q .entry)) ⌝ }
-{
-    let mut i = 0;
-    while i < q.len() {
-        if p.len() <= i {
-            return true;
-        }
-        if p[i] < q[i] {
-            return true;
-        }
-        if q[i] < p[i] {
-            return false;
-        }
-        i += 1;
-    }
-    false
-}
-
-// The arcs of a label's chain and one arc more in the first words of out; how many they are.
-fn write_candidate(labels: &[u8], n: usize, label: usize, arc: u32, out: &mut [u32]) -> usize
-    requires { ⌜ (Down (now labels) n) × (label < n)
-        × (length (chainAt (now labels) label) < length (now out)) ⌝ }
-    ensures { λ r. ⌜ (r ≡ suc (length (chainAt (now (labels .entry)) label)))
-        × (length (now (out .exit)) ≡ length (now (out .entry)))
-        × (take r (now (out .exit)) ≡ chainAt (now (labels .entry)) label ++ (arc ∷ [])) ⌝ }
-{
-    let k = labels::chain::arcs(labels, n, label);
-    labels::chain::write(labels, n, label, &mut out[0..k]);
-    out[k] = arc;
-    k + 1
-}
 
 // Whether the arc numbers of label i's chain with arc a come before those of label j's with arc c.
 fn candidate_numbers_first(labels: &[u8], n: usize, i: usize, a: u32, j: usize, c: u32) -> bool
@@ -57,11 +20,7 @@ fn candidate_numbers_first(labels: &[u8], n: usize, i: usize, a: u32, j: usize, 
     ensures { λ r. ⌜ r ≡ numbersFirst (chainAt (now (labels .entry)) i ++ (a ∷ []))
         (chainAt (now (labels .entry)) j ++ (c ∷ [])) ⌝ }
 {
-    let mut p = [0u32; MOST_CHAIN];
-    let mut q = [0u32; MOST_CHAIN];
-    let k = write_candidate(labels, n, i, a, &mut p);
-    let m = write_candidate(labels, n, j, c, &mut q);
-    numbers_first(&p[0..k], &q[0..m])
+    label_ties::numbers_first(labels, n, i, a, j, c)
 }
 
 // The length of a candidate.

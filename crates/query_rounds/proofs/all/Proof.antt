@@ -1,12 +1,14 @@
 -- The rounds, one after the other. The slots are blank at first; each round keeps the query underway and the answers in their slots, and the
 -- labels' length. At the end the labels are cleared, and what was made are the query's rounds.
-use mathlib.Core.Path.{_≡_, refl}
+use mathlib.Core.Path.{_≡_, ap, _∙_}
 use mathlib.Core.List.{List}
 use Prim.Native.Nat.{ℕ, _+_, _-_}
 use native.Mathlib.Omega.{arith}
 use lib.ListN.{length}
 use borrow.Author.Needs.{needs}
+use Rattle.outcome.specs.declared.Told.{Told}
 use Rattle.search_ask.specs.Ask.{queryFor, width}
+use Rattle.summary.specs.declared.Sums.{Sums}
 use Rattle.query_rounds.proofs.RoundsLaws.{Gone, gone-start, gone-step, gone-underway, gone-end}
 use Rattle.query_rounds.proofs.all.Statement.{statement}
 use Rattle.query_rounds.proofs.all.Tie as tie
@@ -57,8 +59,8 @@ loop-again c =
     let s = start a in
     gone-step (s .args .ask) (s .args .table .now) (s .args .closed .now) (s .args .k) (s .args .labels .now) (blank a) (m .loop .labels) (m .loop .area) (m .loop .x) (m .loop .inv) _ _ (p .step .result) (p .step .ensures .0) (p .step .ensures .1)
 
-abbrev ended : tie.After-sums Inv-loop μ-loop → tie.Else1 Inv-loop μ-loop
-ended c = c .before .before .before .before .before
+abbrev ended : tie.After-slice-known6 Inv-loop μ-loop → tie.Else1 Inv-loop μ-loop
+ended c = c .before .before .before .before
 
 tell-requires : tie.Need-tell-requires Inv-loop μ-loop
 tell-requires c κs =
@@ -67,12 +69,15 @@ tell-requires c κs =
 
 returns : tie.Need-returns Inv-loop μ-loop
 returns c =
-    let e = ended (c .before) in
+    let t = c .before in
+    let e = ended (t .before) in
     let m = e .before .before in
     let a = m .before in
     let s = start a in
+    let g = c .got-of .ensures in
     gone-end (s .args .ask) (s .args .table .now) (s .args .closed .now) (s .args .k) (s .args .labels .now) (blank a) (m .loop .labels) (m .loop .area) (m .loop .x) (m .loop .inv) (s .args .area .now) (s .pre .0 .few)
-    (a .before .before .fill32-part .ensures) (e .if1 .left) _ (c .before .before .before .before .fill8 .ensures) _ (c .tell .ensures) refl refl
+    (a .before .before .fill32-part .ensures) (e .if1 .left) _ (t .before .before .before .fill8 .ensures) (c .got-of .result)
+    (ap {B = Told} (λ y. y .told) g ∙ t .tell .ensures) (ap {B = Sums} (λ y. y .sums) g) (ap {B = ℕ} (λ y. y .n) g)
 
 pub all-spec : {M : Type 1} → statement M
 all-spec =
@@ -90,6 +95,7 @@ all-spec =
     loop-again
     (λ c κs. search needs)
     tell-requires
+    (λ c κs. search needs)
     (λ c. search needs)
     (λ c. search needs)
     returns)

@@ -1,11 +1,11 @@
--- A round more. How it ended is the theory's ending; the laws `stepped-..` say what each arm's progress is. The round asks for the lengths
+-- A round more. How it ended is the theory's ending, and `stepped-after` says what the progress is with what that ending adds. The round asks for the lengths
 -- of the earlier answers, which are the first r of the summaries' lengths.
 use native.Mathlib.Omega.{arith}
 use native.Mathlib.Nat.{mul-le-mul-right}
 use borrow.Author.Needs.{needs}
-use mathlib.Core.Path.{_≡_, sym, ap, ap₂, subst, _∙_}
+use mathlib.Core.Path.{_≡_, sym, ap, subst, _∙_}
 use mathlib.Core.List.{List}
-use Prim.Native.Nat.{ℕ, suc, _+_, _<_, _/_}
+use Prim.Native.Nat.{ℕ, suc, _<_, _/_}
 use lib.ListN.{length}
 use Rattle.net.specs.Round.{Query}
 use Rattle.labels.specs.Field.{labelBytes}
@@ -14,10 +14,8 @@ use Rattle.search_ask.specs.Ask.{queryFor, width}
 use Rattle.search_ask.specs.Earlier.{earlierIn}
 use Rattle.search_ask.proofs.AskLaws.{accepted-valid, few-arcs, nodes-most, lengths-most}
 use Rattle.round.specs.Round.{Rounded}
-use Rattle.summary.specs.Sums.{setAt}
 use Rattle.query_rounds.specs.Progress.{Stepped}
-use Rattle.query_rounds.specs.declared.Progress.{Progress}
-use Rattle.query_rounds.proofs.ProgressLaws.{Stepping, lens-long, earlier-lent, stepped-answer, stepped-none, stepped-refused}
+use Rattle.query_rounds.proofs.ProgressLaws.{Stepping, lens-long, earlier-lent, stepped-after}
 use Rattle.query_rounds.proofs.step.Statement.{statement}
 use Rattle.query_rounds.proofs.step.Tie as tie
 
@@ -70,11 +68,6 @@ same-labels a = ap length (rounded a .bytes) ∙ length-labelled (query a .net) 
 in-row : (s : tie.Start) → s .args .x .r < 8
 in-row s = omega (arith, s .pre .2 .going (s .pre .1), s .pre .0 .few)
 
--- what is left, by what the progress is
-left : (a : tie.After-round) (y z : Progress) → z ≡ y → Stepped (query a) (w a) (start a .args .k) (start a .args .area .now) (start a .args .x) (area-left a) y
-    → (length (labels-left a) ≡ length (start a .args .labels .now)) × Stepped (query a) (w a) (start a .args .k) (start a .args .area .now) (start a .args .x) (area-left a) z
-left a y z e k = (same-labels a, subst (Stepped (query a) (w a) (start a .args .k) (start a .args .area .now) (start a .args .x) (area-left a)) (sym e) k)
-
 round-requires : tie.Need-round-requires
 round-requires c κs =
     let s = c .before .before .before .before .before .before .before .before .before .before in
@@ -90,30 +83,13 @@ matched c = c .before .before .before .before
 returns : tie.Need-returns
 returns c =
     let t = c .before in
-    let e = t .before .before in
-    let a = matched (e .before .before) in
-    let s = start a in
-    let g = e .e .given in
-    left a _ _ (ap₂ {C = Progress} (λ i y. record { r = r a + 1; stage = i; sums = y }) (t .stage-after .ensures) (c .with .ensures))
-    (stepped-answer (query a) (s .args .k) (s .args .area .now) (s .args .x) (stepping a) (g .0 .0) (g .0 .1 .0) (g .0 .1 .1 .0) (sym (g .1) ∙ rounded a .ends) (area-left a) (rounded a .slot))
-
-returns-2 : tie.Need-returns-2
-returns-2 c =
-    let e = c .before .before in
-    let a = matched (e .before .before) in
-    let s = start a in
-    let g = e .e2 .given in
-    left a _ _ (ap {B = Progress} (λ y. record { r = r a; stage = 2; sums = y }) (c .with2 .ensures))
-    (stepped-none (query a) (s .args .k) (s .args .area .now) (s .args .x) (stepping a) (g .0 .0) (sym (g .1) ∙ rounded a .ends) (area-left a) (rounded a .slot))
-
-returns-3 : tie.Need-returns-3
-returns-3 c =
-    let e = c .before in
-    let a = matched (e .before .before) in
-    let s = start a in
-    left a _ _ (ap {B = Progress} (λ y. record { r = r a; stage = 3; sums = y })
-    (c .with3 .ensures ∙ ap (λ n. setAt (s .args .x .sums) (r a) (record { length = 0; arcs = 0; labels = n / labelBytes })) (same-labels a)))
-    (stepped-refused (query a) (s .args .k) (s .args .area .now) (s .args .x) (stepping a) (sym (e .enum-told .given .1) ∙ rounded a .ends) (area-left a) (rounded a .slot))
+    let a = matched (t .before) in
+    let s = start a in (
+      same-labels a,
+      subst (λ v. Stepped (query a) (w a) (s .args .k) (s .args .area .now) (s .args .x) (area-left a) (record { r = t .after .result .r; stage = t .after .result .stage; sums = v })) (sym (c .with .ensures))
+          (stepped-after (query a) (s .args .k) (s .args .area .now) (s .args .x) (stepping a) (a .round .result) (rounded a .ends) (area-left a) (rounded a .slot)
+          _ (ap (λ n. n / labelBytes) (same-labels a)) (t .after .result) (t .after .ensures)),
+    )
 
 pub step-spec : {M : Type 1} → statement M
 step-spec =
@@ -123,24 +99,8 @@ step-spec =
     (λ c. search needs)
     (λ c. search needs)
     round-requires
+    (λ c κs. in-row (start (matched c)))
+    (λ c κs. in-row (start (matched (c .before))))
     (λ c. search needs)
     (λ c. search needs)
-    (λ c. search needs)
-    (λ c. search needs)
-    (λ c. search needs)
-    (λ c κs. search needs)
-    (λ c κs. in-row (start (matched (c .before .before .before .before))))
-    (λ c. search needs)
-    (λ c. search needs)
-    (λ c κs. in-row (start (matched (c .before .before .before))))
-    (λ c. search needs)
-    (λ c κs. in-row (start (matched (c .before .before))))
-    (λ c. search needs)
-    (λ c. search needs)
-    returns
-    (λ c. search needs)
-    (λ c. search needs)
-    returns-2
-    (λ c. search needs)
-    (λ c. search needs)
-    returns-3)
+    returns)

@@ -1,0 +1,4 @@
+pub mod TogetherLaws
+pub mod ClimbLaws
+pub mod PairLaws
+pub mod CutLaws

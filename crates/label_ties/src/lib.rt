@@ -1,0 +1,103 @@
+// The order of two candidates by their arc numbers, by a walk back over the labels: the longer
+// chain first to the other's number of arcs, then both together until they meet.
+//
+//   0 ---3---> 1 ---7---> 4 ---2---> 6 ..9..>     3 7 2 9
+//              1 ---5---> 2 ..8..>                3 5 8
+//
+// Label 6 is left for label 4, from which arc 2 goes on: 2 against 8, the first comes first. Then
+// both step back, by 7 against 5: the second comes first. At label 1 they meet.
+use labels::field;
+ghost use mathlib.Core.Path.{_≡_};
+ghost use mathlib.Core.List.{[], _∷_, _++_};
+ghost use mathlib.Core.Logic.{_⊎_};
+ghost use Prim.Native.Nat.{_≤_, _<_};
+ghost use lib.ListN.{length, take, getD};
+ghost use Rattle.lists.specs.Tests.{lex};
+ghost use Rattle.net.specs.Route.{numbersFirst};
+ghost use Rattle.labels.specs.Chain.{chainAt};
+ghost use Rattle.labels.specs.Standing.{Down};
+ghost use Rattle.label_ties.specs.Together.{together};
+
+// A label, and the arc by which a chain goes on from it.
+struct Left {
+    label: usize,
+    arc: u32,
+}
+
+// Of two numbers that differ the lower comes first; equal ones leave it to what comes after them.
+fn decide(p: u32, q: u32, after: bool) -> bool
+    ensures { λ r. ⌜ r ≡ lex p q after ⌝ }
+{
+    if p < q {
+        return true;
+    }
+    if q < p {
+        return false;
+    }
+    after
+}
+
+fn lower(x: usize, y: usize) -> usize
+    ensures { λ r. ⌜ (r ≤ x) × (r ≤ y) × ((r ≡ x) ⊎ (r ≡ y)) ⌝ }
+{
+    if x < y {
+        return x;
+    }
+    y
+}
+
+// Of a chain of k arcs and one arc more: the label of its first d arcs, and the arc after those.
+fn climb(labels: &[u8], n: usize, label: usize, arc: u32, k: usize, d: usize) -> Left
+    requires { ⌜ (Down (now labels) n) × (label < n)
+        × (k ≡ length (chainAt (now labels) label)) × (d ≤ k) ⌝ }
+    ensures { λ r. ⌜ (r .label < n)
+        × (chainAt (now (labels .entry)) (r .label) ≡ take d (chainAt (now (labels .entry)) label))
+        × (r .arc ≡ getD (chainAt (now (labels .entry)) label ++ (arc ∷ [])) d 0) ⌝ }
+{
+    let mut at = label;
+    let mut next = arc;
+    let mut e = k;
+    while e > d {
+        next = field::last_arc(labels, at);
+        at = field::extends(labels, at) as usize;
+        e -= 1;
+    }
+    Left {
+        label: at,
+        arc: next,
+    }
+}
+
+// Two chains of as many arcs compared from the start; where all are equal, `after`.
+fn together(labels: &[u8], n: usize, u: usize, v: usize, after: bool) -> bool
+    requires { ⌜ (Down (now labels) n) × (u < n) × (v < n)
+        × (length (chainAt (now labels) u) ≡ length (chainAt (now labels) v)) ⌝ }
+    ensures { λ r. ⌜ r ≡ together (chainAt (now (labels .entry)) u)
+        (chainAt (now (labels .entry)) v) after ⌝ }
+{
+    let mut x = u;
+    let mut y = v;
+    let mut r = after;
+    while x != y {
+        let x_extends = field::extends(labels, x) as usize;
+        let y_extends = field::extends(labels, y) as usize;
+        r = decide(field::last_arc(labels, x), field::last_arc(labels, y), r);
+        x = x_extends;
+        y = y_extends;
+    }
+    r
+}
+
+// Whether the arc numbers of label i's chain with arc a come before those of label j's with arc c.
+pub fn numbers_first(labels: &[u8], n: usize, i: usize, a: u32, j: usize, c: u32) -> bool
+    requires { ⌜ (Down (now labels) n) × (i < n) × (j < n) ⌝ }
+    ensures { λ r. ⌜ r ≡ numbersFirst (chainAt (now (labels .entry)) i ++ (a ∷ []))
+        (chainAt (now (labels .entry)) j ++ (c ∷ [])) ⌝ }
+{
+    let k = labels::chain::arcs(labels, n, i);
+    let m = labels::chain::arcs(labels, n, j);
+    let d = lower(k, m);
+    let x = climb(labels, n, i, a, k, d);
+    let y = climb(labels, n, j, c, m, d);
+    together(labels, n, x.label, y.label, decide(x.arc, y.arc, k < m))
+}
