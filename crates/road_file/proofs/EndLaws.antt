@@ -1,19 +1,19 @@
 -- Where a file ends. A line has begun exactly if its scan is of some kind: no byte brings the scan back to none. So the reader knows whether a line is missing, and
 -- its number of the first wrong line tells what the file is.
-use mathlib.Core.Path.{_≡_, refl, sym, ap, ap₂, subst, _∙_}
+use mathlib.Core.Path.{_≡_, refl, sym, ap, _∙_}
 use mathlib.Core.Bool.{Bool, true, false, not, _||_, _&&_, cond}
 use mathlib.Core.List.{List, [], _∷_}
 use mathlib.Core.Logic.{_⊎_, inl, inr, _≢_, ⊎-elim}
-use Prim.Native.Nat.{ℕ, _+_, _≤_, _<_}
+use Prim.Native.Nat.{ℕ, _+_}
 use native.Mathlib.Omega.{arith}
 use lib.Dec.{ltb, leb, eqb}
 use lib.ListN.{length}
-use borrow.Author.Tests.{ne-eqb, eq-eqb, lt-ltb, le-ltb, eqb-true, eqb-false}
+use borrow.Author.Tests.{ne-eqb, lt-ltb, le-ltb, eqb-false}
 use Rattle.lists.proofs.Cases.{cases, order}
 use Rattle.numerals.specs.Decimal.{mostNumber, isDigit}
 use Rattle.road_line.specs.declared.Scan.{Scan}
 use Rattle.road_line.specs.Scan.{started, spoilt, stateOf, expectedAt, kindOf, leftOf, begunBy, compared, grownBy, withDigit, withSpace, numberByte, scanByte, scanFrom, scanned}
-use Rattle.road_file.specs.File.{Fed, nextLine, missing, Roads, malformed, roads, endedOf}
+use Rattle.road_file.specs.File.{Fed, nextLine, missing, malformed, roads, endedOf}
 use Rattle.road_file.specs.Reader.{readerOf, shortBy, wrongBy}
 
 -- what holds of both holds by any test

@@ -4,15 +4,14 @@ use mathlib.Core.Path.{_≡_, refl, sym, ap, subst, _∙_}
 use mathlib.Core.Bool.{Bool, true, false, _&&_, cond}
 use mathlib.Core.List.{List, [], _∷_, _++_}
 use mathlib.Core.Logic.{_⊎_, inl, inr}
-use Prim.Native.Nat.{ℕ, _+_, _-_, _<_, _≤_}
+use Prim.Native.Nat.{ℕ, _+_, _-_, _<_}
 use native.Mathlib.Omega.{arith}
 use native.Mathlib.Numerals.{add-one}
 use lib.Dec.{T, ltb, eqb}
 use lib.ListN.{length, getD, take}
 use lib.Seq.{take-suc}
-use Rattle.net.specs.Net.{Arc}
 use Rattle.road_line.specs.Line.{Line, comment, sizes, arc, other, lineOf}
-use Rattle.road_file.specs.File.{Said, nothing, Fed, unfed, refused, sized, extended, saying, feedByte, feed}
+use Rattle.road_file.specs.File.{Said, Fed, unfed, refused, sized, extended, saying, feedByte, feed}
 use Rattle.road_file.specs.Reader.{lastArc}
 use Rattle.road_file.proofs.FeedLaws.{feed-append, last-more}
 

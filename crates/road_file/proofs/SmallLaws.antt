@@ -4,7 +4,7 @@
 use mathlib.Core.Path.{_≡_, refl, sym, _∙_}
 use mathlib.Core.Bool.{Bool, true, false, _&&_, cond}
 use mathlib.Core.List.{List, [], _∷_, _++_}
-use Prim.Native.Nat.{ℕ, zero, suc, _-_, _<_, _≤_}
+use Prim.Native.Nat.{ℕ, zero, suc, _-_, _≤_}
 use native.Mathlib.Omega.{arith}
 use lib.Dec.{ltb, eqb}
 use lib.ListN.{length, length-append}
@@ -97,7 +97,3 @@ good-feed x (b ∷ text) g = good-feed (feedByte x b) text (good-byte x b g)
 
 pub said-small : (text : List ℕ) → AllSmall (feed unfed text .said .arcs)
 said-small text = good-feed unfed text good-nothing .arcs
-
-pub said-sizes : (text : List ℕ)
-    → (feed unfed text .said .nodes ≤ mostNumber) × (feed unfed text .said .wanted ≤ mostNumber) × (length (feed unfed text .said .arcs) ≤ feed unfed text .said .wanted)
-said-sizes text = let g = good-feed unfed text good-nothing in (g .nodes, g .wanted, g .count)

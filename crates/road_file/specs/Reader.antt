@@ -1,12 +1,12 @@
 -- The reader: of what was fed, what it keeps by value, and how a byte changes that.
-use mathlib.Core.Bool.{Bool, true, false, not, _&&_, _||_, cond}
+use mathlib.Core.Bool.{Bool, true, not, _&&_, _||_, cond}
 use mathlib.Core.List.{List, [], _∷_}
 use Prim.Native.Nat.{ℕ, _+_, _-_}
 use lib.Dec.{ltb, eqb}
 use lib.ListN.{length}
 use Rattle.net.specs.Net.{Arc}
 use Rattle.road_line.specs.Line.{Line, comment, sizes, arc, other}
-use Rattle.road_line.specs.Scan.{started, scanFrom, scanned, scanByte, readOf}
+use Rattle.road_line.specs.Scan.{started, scanned, scanByte, readOf}
 use Rattle.road_file.specs.declared.Reader.{Reader}
 use Rattle.road_file.specs.File.{Fed, nextLine}
 

@@ -7,7 +7,7 @@ ghost use Prim.Native.Nat.{_≤_};
 ghost use Rattle.road_line.specs.Scan.{readOf};
 ghost use Rattle.road_file.specs.File.{nextLine, unfed};
 ghost use Rattle.road_file.specs.Reader.{readerOf, passedBy, refusedBy, sizedBy};
-ghost use Rattle.road_file.specs.Reader.{extendedBy, saidBy, scannedBy, fedBy};
+ghost use Rattle.road_file.specs.Reader.{extendedBy, saidBy, fedBy};
 ghost use Rattle.road_file.specs.Reader.{shortBy, wrongBy};
 
 const NEWLINE: u8 = 10;

@@ -6,13 +6,13 @@ use mathlib.Core.List.{List, [], _∷_, _++_, map, flatten, append-assoc, List·
 use Prim.Native.Nat.{ℕ, zero, suc, _+_, _*_, _≤_, _<_}
 use native.Mathlib.Omega.{arith}
 use native.Mathlib.Numerals.{add-one}
-use lib.ListN.{length, getD, take, drop, length-append, length-drop}
-use lib.Seq.{drop-drop, take-at, drop-at}
+use lib.ListN.{length, getD, take, drop, length-append}
+use lib.Seq.{take-at, drop-at}
 use Rattle.lists.specs.Index.{tab}
 use Rattle.lists.proofs.IndexLaws.{getD-tab, tab-cong}
 use Rattle.words.specs.Number.{num, bytesOf}
-use Rattle.words.proofs.BytesLaws.{length-bytesOf, num-bytes}
-use Rattle.net.specs.Net.{Arc, noArc}
+use Rattle.words.proofs.BytesLaws.{num-bytes}
+use Rattle.net.specs.Net.{Arc}
 use Rattle.net.specs.Small.{Small, AllSmall}
 use Rattle.table.specs.Table.{arcAt, tableOf}
 use Rattle.road_sort.specs.Sorted.{rowAt, rowsIn, placeOf, rowsSorted, sortedTable, Placed}

@@ -16,7 +16,8 @@ const PLACE: usize = 12;
 fn place(table: &mut [u8], i: u32, from: u32, to: u32, len: u32)
     requires { ⌜ i * 16 + 16 ≤ length (now table) ⌝ }
     ensures { λ _. ⌜ now (table .exit)
-        ≡ put 4 (putArc (now (table .entry)) i (record { from = from; to = to; len = len })) (i * 16 + 12) i ⌝ }
+        ≡ put 4 (putArc (now (table .entry)) i (record { from = from; to = to; len = len }))
+        (i * 16 + 12) i ⌝ }
 {
     table::arc::write(table, i as usize, from, to, len);
     words::number::write32(table, i as usize * RECORD + PLACE, i);
@@ -35,7 +36,8 @@ fn place_next(table: &mut [u8], before: u32, r: Reader)
 // Every arc of the text in the record of its place in the file.
 pub fn fill(text: &[u8], table: &mut [u8])
     requires { ⌜ length (feed unfed (now text) .said .arcs) * 16 ≤ length (now table) ⌝ }
-    ensures { λ _. ⌜ now (table .exit) ≡ filled (feed unfed (now (text .entry)) .said .arcs) (now (table .entry)) ⌝ }
+    ensures { λ _. ⌜ now (table .exit)
+        ≡ filled (feed unfed (now (text .entry)) .said .arcs) (now (table .entry)) ⌝ }
 {
     let mut r = road_file::begin();
     let mut i = 0;

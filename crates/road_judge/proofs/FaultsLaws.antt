@@ -9,14 +9,14 @@ use mathlib.Core.Logic.{⊎-elim, _≢_}
 use Prim.Native.Nat.{ℕ, zero, suc, _+_, _*_, _%_, _≤_, _<_}
 use native.Mathlib.Omega.{arith}
 use lib.Dec.{ltb, leb, eqb}
-use lib.ListN.{length, length-append}
+use lib.ListN.{length}
 use lib.Seq.{drop-at}
 use borrow.Author.Tests.{eqb-true, eq-eqb, ne-eqb, le-ltb, not-false}
 use Rattle.lists.proofs.Cases.{order}
 use Rattle.lists.proofs.IndexLaws.{first-below}
 use Rattle.words.specs.Number.{num, bytesOf}
 use Rattle.words.proofs.RecordLaws.{num-drop}
-use Rattle.words.proofs.BytesLaws.{length-bytesOf, num-bytes}
+use Rattle.words.proofs.BytesLaws.{num-bytes}
 use Rattle.net.specs.Limits.{mostNodes, mostArcs}
 use Rattle.net.specs.Net.{Arc, arc}
 use Rattle.outcome.specs.Outcome.{size, plain, beside}

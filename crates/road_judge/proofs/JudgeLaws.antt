@@ -1,6 +1,6 @@
 -- A pass that judges the last arc whenever the number of arcs has grown has the pick of all arcs so far: at most one comes with a byte, behind the others, and the
 -- node count by which it is judged no longer changes.
-use mathlib.Core.Path.{_≡_, refl, sym, ap, ap₂, _∙_}
+use mathlib.Core.Path.{_≡_, sym, ap, ap₂, _∙_}
 use mathlib.Core.Bool.{Bool, true, false, cond}
 use mathlib.Core.List.{List, [], _∷_, _++_}
 use mathlib.Core.Logic.{_⊎_, inl, inr, ⊎-elim, _≢_}

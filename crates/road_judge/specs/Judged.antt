@@ -1,6 +1,5 @@
 -- The faults of a road file's arcs, as a pass over its text finds them.
 use mathlib.Core.Bool.{cond}
-use mathlib.Core.List.{List}
 use Prim.Native.Nat.{ℕ}
 use lib.Dec.{ltb, eqb}
 use Rattle.lists.specs.Tests.{lex}

@@ -28,9 +28,5 @@ unfolding scanFrom
 scan-more x [] b = refl
 scan-more x (d ∷ l) b = scan-more (scanByte x d) l b
 
-pub scanned-none : scanned [] ≡ started
-unfolding scanFrom
-scanned-none = refl
-
 pub scanned-more : (l : List ℕ) (b : ℕ) → scanned (l ++ (b ∷ [])) ≡ scanByte (scanned l) b
 scanned-more l b = scan-more started l b

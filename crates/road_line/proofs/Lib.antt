@@ -4,6 +4,5 @@ pub mod NumbersLaws
 pub mod NumberLaws
 pub mod ScanLaws
 pub mod LineCases
-pub mod WrittenLaws
 pub mod NodeLaws
 pub mod SmallLaws

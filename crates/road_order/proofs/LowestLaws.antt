@@ -14,7 +14,7 @@ use lib.Dec.{leb, ltb, eqb}
 use lib.ListN.{length, getD}
 use borrow.Author.Tests.{le-leb, lt-leb, lt-ltb, le-ltb, eq-eqb, ne-eqb, eqb-true, eqb-false}
 use Rattle.lists.specs.Tests.{lex}
-use Rattle.lists.proofs.Cases.{cases, order, three-ways}
+use Rattle.lists.proofs.Cases.{cases, order}
 use Rattle.lists.proofs.IndexLaws.{first-is}
 use Rattle.net.specs.Net.{Arc, noArc, arc}
 use Rattle.road_order.specs.Ordered.{insertArc, ordered}

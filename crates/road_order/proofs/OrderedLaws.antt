@@ -1,15 +1,15 @@
 -- Records sorted by start node and place are the arcs in order: where the places rise along the file, a record comes before one behind it exactly if its start
 -- node is no greater. Arcs that stand in order stay as they are.
-use mathlib.Core.Path.{_≡_, refl, sym, ap, _∙_}
-use mathlib.Core.Bool.{Bool, true, false, cond, _||_, _&&_}
+use mathlib.Core.Path.{_≡_, refl, ap, _∙_}
+use mathlib.Core.Bool.{Bool, true, false, cond}
 use mathlib.Core.List.{List, [], _∷_, map}
-use mathlib.Core.Logic.{_⊎_, inl, inr, ⊎-elim}
-use Prim.Native.Nat.{ℕ, suc, _+_, _≤_, _<_}
+use mathlib.Core.Logic.{_⊎_, ⊎-elim}
+use Prim.Native.Nat.{ℕ, suc, _≤_, _<_}
 use native.Mathlib.Omega.{arith}
-use lib.Dec.{leb, ltb, eqb}
+use lib.Dec.{leb, ltb}
 use borrow.Author.Tests.{le-leb, lt-leb, lt-ltb, le-ltb, eq-eqb, ne-eqb}
 use Rattle.lists.specs.Tests.{lex}
-use Rattle.lists.proofs.Cases.{cases, order, three-ways}
+use Rattle.lists.proofs.Cases.{order, three-ways}
 use Rattle.words.specs.Number.{num}
 use Rattle.net.specs.Net.{Arc}
 use Rattle.road_sort.specs.Sorted.{startOf, placeOf, rowBefore, rowPut, rowsSorted}

@@ -12,7 +12,6 @@ use borrow.Author.Tests.{lt-leb, le-leb, lt-ltb, le-ltb}
 use Rattle.outcome.specs.declared.Told.{Told}
 use Rattle.outcome.specs.Outcome.{file, buffers, size, plain, beside}
 use Rattle.net.specs.Net.{Arc}
-use Rattle.table.specs.Table.{tableOf}
 use Rattle.table.specs.Fault.{wrongSize, tableFault, good}
 use Rattle.table.proofs.TableLaws.{length-tableOf}
 use Rattle.table.proofs.FaultLaws.{told-good}
@@ -20,7 +19,7 @@ use Rattle.net.specs.Limits.{mostNodes, mostArcs}
 use Rattle.road_order.specs.Ordered.{ordered}
 use Rattle.road_order.specs.Lowest.{Pick, rank}
 use Rattle.road_order.proofs.LowestLaws.{length-ordered}
-use Rattle.road_file.specs.File.{Roads, malformed, roads, roadsIn, unfed, feed, endedOf}
+use Rattle.road_file.specs.File.{malformed, roads, roadsIn, unfed, feed}
 use Rattle.road_file.specs.Reader.{readerOf, wrongBy}
 use Rattle.road_file.proofs.EndLaws.{ended-good, ended-wrong}
 use Rattle.road_file.proofs.SmallLaws.{said-small}

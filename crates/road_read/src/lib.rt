@@ -3,7 +3,6 @@ use outcome::Told;
 use road_judge::Found;
 use road_made::Made;
 ghost use mathlib.Core.Path.{_≡_};
-ghost use Prim.Native.Nat.{_≤_};
 ghost use Rattle.table.specs.Fault.{tableFault};
 ghost use Rattle.road_file.specs.File.{unfed, feed};
 ghost use Rattle.road_file.specs.Reader.{readerOf};

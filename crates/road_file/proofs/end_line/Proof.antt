@@ -1,5 +1,5 @@
 -- What the scan reads is one of four kinds of line, and each is said in its own way. An arc line has no node 0.
-use mathlib.Core.Path.{_≡_, sym, ap, _∙_}
+use mathlib.Core.Path.{sym, ap, _∙_}
 use borrow.Author.Needs.{needs}
 use Rattle.road_line.specs.Scan.{lineIs}
 use Rattle.road_line.proofs.NodeLaws.{read-nodes}

@@ -1,9 +1,7 @@
 -- An arc line before the `p` line, or one too many, is not permitted.
 use mathlib.Core.Path.{ap₂, _∙_}
-use mathlib.Core.Bool.{true, _&&_}
 use Prim.Native.Nat.{_+_, _-_}
 use native.Mathlib.Omega.{arith}
-use lib.Dec.{ltb}
 use borrow.Author.Needs.{needs}
 use borrow.Author.Tests.{lt-ltb, le-ltb, not-true, not-false}
 use Rattle.road_file.specs.Reader.{extendedBy}

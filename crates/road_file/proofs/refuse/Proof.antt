@@ -1,7 +1,5 @@
 -- The first line that is not permitted is kept.
 use mathlib.Core.Path.{ap₂, _∙_}
-use mathlib.Core.Bool.{cond}
-use lib.Dec.{eqb}
 use borrow.Author.Needs.{needs}
 use borrow.Author.Tests.{eq-eqb, ne-eqb}
 use Rattle.road_file.specs.declared.Reader.{Reader}

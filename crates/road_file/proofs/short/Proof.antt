@@ -1,5 +1,4 @@
 -- The three tests in their order.
-use mathlib.Core.Bool.{true}
 use borrow.Author.Needs.{needs}
 use borrow.Author.Tests.{eq-eqb, ne-eqb, not-true, not-false}
 use Rattle.road_file.specs.Reader.{shortBy}

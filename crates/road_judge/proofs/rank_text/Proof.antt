@@ -1,5 +1,5 @@
 -- After i bytes the reader and the rank are those of what was fed by the first i; at the end that is the text.
-use mathlib.Core.Path.{_≡_, refl, sym, ap, ap₂, subst, _∙_}
+use mathlib.Core.Path.{_≡_, refl, sym, ap, ap₂, _∙_}
 use Prim.Native.Nat.{_+_, _-_, _≤_, _<_}
 use lib.ListN.{length, getD}
 use lib.Seq.{take-all}

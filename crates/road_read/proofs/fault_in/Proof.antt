@@ -1,6 +1,5 @@
 -- The three tests of the size, then the pick.
 use mathlib.Core.Path.{_≡_, sym, ap, ap₂, _∙_}
-use mathlib.Core.Logic.{_≢_}
 use Prim.Native.Nat.{_≤_, _<_}
 use lib.ListN.{length}
 use native.Mathlib.Omega.{arith}
@@ -9,7 +8,7 @@ use Rattle.outcome.specs.declared.Told.{Told}
 use Rattle.net.specs.Limits.{mostNodes, mostArcs}
 use Rattle.road_file.specs.File.{unfed, feed}
 use Rattle.road_order.specs.Lowest.{rank}
-use Rattle.road_judge.specs.Judged.{pickOf, pickIn}
+use Rattle.road_judge.specs.Judged.{pickIn}
 use Rattle.road_read.proofs.ReadLaws.{fault-low, fault-high, fault-many, fault-none, fault-lowest}
 use Rattle.road_read.proofs.fault_in.Statement.{statement}
 use Rattle.road_read.proofs.fault_in.Tie as tie

@@ -1,7 +1,6 @@
 -- The four ways to the end: `read-malformed`, `read-faulty`, `read-small`, `read-done`.
 use mathlib.Core.Path.{_≡_, sym, ap, subst, _∙_}
 use mathlib.Core.List.{_++_}
-use mathlib.Core.Logic.{_≢_}
 use Prim.Native.Nat.{_*_, _≤_, _<_}
 use lib.ListN.{length, drop}
 use native.Mathlib.Omega.{arith}
@@ -10,7 +9,7 @@ use Rattle.outcome.specs.Outcome.{file}
 use Rattle.road_file.specs.File.{unfed, feed}
 use Rattle.road_file.specs.Reader.{readerOf, wrongBy}
 use Rattle.road_file.proofs.SmallLaws.{said-small}
-use Rattle.road_made.specs.declared.Made.the-variants.{Done, Refused}
+use Rattle.road_made.specs.declared.Made.the-variants.{Refused}
 use Rattle.road_read.specs.Read.{tableDue, Read}
 use Rattle.road_read.proofs.ReadLaws.{length-due, read-malformed, read-faulty, read-small, read-done}
 use Rattle.road_read.proofs.read.Statement.{statement}

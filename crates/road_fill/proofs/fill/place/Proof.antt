@@ -1,5 +1,4 @@
 -- The arc, and its place behind it.
-use mathlib.Core.Path.{_∙_, ap}
 use borrow.Author.Needs.{needs}
 use Rattle.road_fill.proofs.fill.place.Statement.{statement}
 use Rattle.road_fill.proofs.fill.place.Tie as tie

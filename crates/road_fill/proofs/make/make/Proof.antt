@@ -1,5 +1,5 @@
 -- Filled, sorted and cleared: `made-at`.
-use mathlib.Core.Path.{_≡_, ap, _∙_}
+use mathlib.Core.Path.{ap, _∙_}
 use Prim.Native.Nat.{_*_, _≤_}
 use lib.ListN.{length}
 use native.Mathlib.Omega.{arith}
