@@ -30,7 +30,7 @@ struct search {
     const uint8_t *closed; /* a byte for each arc, or NULL where none is closed */
     uint32_t *first;  /* the first arc of each node, and the number of arcs after the last node */
     uint32_t *newest; /* the label last made at each node, or OJEONBUT_NONE */
-    uint8_t *on;      /* for each arc, bit p is set if it stands on earlier route p */
+    uint8_t *driven;  /* for each arc, bit p is set if earlier route p drives its road */
     struct label *made;
     size_t count, room;
     struct candidate *heap; /* places from 1; none precedes the one at half its place */
@@ -47,7 +47,7 @@ static void *memory(void *old, size_t bytes)
     return p;
 }
 
-/* Word i of an arc's record: 0 its start node, 1 its end node, 2 its length. */
+/* Word i of an arc's record: 0 its start node, 1 its end node, 2 its length, 3 its road number. */
 static uint32_t word(const uint8_t *table, uint32_t arc, int i)
 {
     const uint8_t *p = table + (size_t)arc * OJEONBUT_RECORD + 4 * i;
@@ -144,7 +144,7 @@ static uint32_t search_round(struct search *s, uint32_t start, uint32_t goal)
         struct label l = s->made[c.label];
         bool within = true; /* the threshold of every earlier route */
         for (uint32_t p = 0; p < s->earlier; p++) {
-            l.overlap[p] += (s->on[c.arc] >> p & 1) * word(s->table, c.arc, 2);
+            l.overlap[p] += (s->driven[c.arc] >> p & 1) * word(s->table, c.arc, 2);
             within = within && s->b * l.overlap[p] <= s->a * s->lengths[p];
         }
         l.length = c.length;
@@ -162,6 +162,38 @@ static uint32_t search_round(struct search *s, uint32_t start, uint32_t goal)
     return OJEONBUT_FEWER;
 }
 
+/* The place of a road number in a set of `size` places, a power of two, some of them free: where it stands, or a free one, which holds 0. */
+static size_t place_of(const uint32_t *set, size_t size, uint32_t road)
+{
+    size_t i = (road * 0x9e3779b1u >> 8) & (size - 1);
+    while (set[i] && set[i] != road)
+        i = (i + 1) & (size - 1);
+    return i;
+}
+
+/* Marks what earlier route p drives: its arcs, and where these have road numbers every arc that has one of them. */
+static void mark_driven(struct search *s, uint32_t arcs, const uint32_t *route, size_t count, uint32_t p)
+{
+    size_t size = 4, roads = 0;
+    while (size < 4 * count) /* three places of four stay free, so that most looks end at the first */
+        size *= 2;
+    uint32_t *set = memset(memory(NULL, size * sizeof *set), 0, size * sizeof *set);
+    for (size_t i = 0; i < count; i++) {
+        uint32_t road = word(s->table, route[i], 3);
+        s->driven[route[i]] |= 1u << p;
+        if (road) {
+            set[place_of(set, size, road)] = road;
+            roads++;
+        }
+    }
+    for (uint32_t arc = 0; roads && arc < arcs; arc++) {
+        uint32_t road = word(s->table, arc, 3);
+        if (road && set[place_of(set, size, road)])
+            s->driven[arc] |= 1u << p;
+    }
+    free(set);
+}
+
 ojeonbut_reply baseline_query_closed(const uint8_t *table, size_t table_bytes, uint32_t nodes, uint32_t start, uint32_t goal, uint32_t k, uint32_t a, uint32_t b,
                                      const uint8_t *closed, size_t closed_bytes, uint8_t *labels, size_t label_bytes, uint32_t *area, size_t area_words,
                                      ojeonbut_summary *summaries, size_t summary_count)
@@ -171,7 +203,7 @@ ojeonbut_reply baseline_query_closed(const uint8_t *table, size_t table_bytes, u
     struct search s = {.table = table, .closed = closed, .made = (struct label *)labels, .room = label_bytes / OJEONBUT_LABEL, .a = a, .b = b};
     s.first = memory(NULL, (nodes + 1 + nodes) * sizeof *s.first);
     s.newest = s.first + nodes + 1;
-    s.on = memset(memory(NULL, arcs + 1), 0, arcs + 1);
+    s.driven = memset(memory(NULL, arcs + 1), 0, arcs + 1);
     for (uint32_t node = 0, arc = 0; node <= nodes; s.first[node++] = arc)
         while (arc < arcs && word(table, arc, 0) < node)
             arc++;
@@ -190,13 +222,13 @@ ojeonbut_reply baseline_query_closed(const uint8_t *table, size_t table_bytes, u
         const struct label *l = &s.made[s.count - 1];
         s.lengths[r] = summaries[r].length = l->length;
         summaries[r].arcs = l->arcs;
-        for (size_t i = l->arcs; i > 0; l = &s.made[l->extends]) {
+        for (size_t i = l->arcs; i > 0; l = &s.made[l->extends])
             area[r * width + --i] = l->arc;
-            s.on[l->arc] |= 1u << r;
-        }
+        if (r + 1 < k)
+            mark_driven(&s, arcs, area + r * width, summaries[r].arcs, r);
     }
     free(s.first);
-    free(s.on);
+    free(s.driven);
     free(s.heap);
     return reply;
 }

@@ -1,4 +1,5 @@
-/* The library against the baseline: times by size, k and threshold; growth of time with labels; times of a road file; the stack that each call needs.
+/* The library against the baseline: times by size, k and threshold; with road numbers beside zeros; growth of time with labels; times of a road file; the stack that each
+ * call needs.
  *
  *     bench [--quick]     --quick: only the rows of the smallest network, with three legs
  *
@@ -25,6 +26,7 @@
 #define ROOM 2048      /* labels lent in the first table, and for the stack */
 #define MOST_ROOM 4096 /* labels lent for the growth: as many as nodes at most */
 #define SHORT 0.02     /* seconds: a shorter call is repeated for as long */
+#define TURNS 3        /* of each leg with and without road numbers */
 
 #define JUNK 0xa5
 #define MARGIN 4 /* labels, words and summaries of junk on either side of what is lent */
@@ -57,7 +59,7 @@ struct size {
 typedef ojeonbut_reply query_call(const uint8_t *, size_t, uint32_t, uint32_t, uint32_t, uint32_t, uint32_t, uint32_t, uint8_t *, size_t, uint32_t *, size_t,
                                   ojeonbut_summary *, size_t);
 
-static struct network net;
+static struct network net, numbered;
 static struct lent of_library, of_baseline;
 static uint32_t queries, agreed;
 
@@ -237,6 +239,73 @@ static void table_of_rows(bool quick)
         return;
     rows_of(32, 32, legs);
     rows_of(64, 64, legs);
+}
+
+/* Whether the answers that stand in m are those of the query put before. */
+static bool same_answers(const struct query *q, const struct lent *m)
+{
+    static uint32_t area[OJEONBUT_ROUTES * (OJEONBUT_NODES - 1)];
+    static ojeonbut_summary summaries[OJEONBUT_ROUTES];
+    size_t words = q->k * (q->net->nodes - 1) * sizeof *area, sums = q->k * sizeof *summaries;
+    bool same = memcmp(area, m->area + MARGIN, words) == 0 && memcmp(summaries, m->summaries + MARGIN, sums) == 0;
+    memcpy(area, m->area + MARGIN, words);
+    memcpy(summaries, m->summaries + MARGIN, sums);
+    return same;
+}
+
+/* The same legs, `across` and `down` blocks long, with zeros and with road numbers; the least times of some turns, one network after the other. */
+static void row_of_numbers(uint32_t legs, uint32_t across, uint32_t down, uint32_t k)
+{
+    struct query q[2] = {{.net = &net, .k = k, .a = 1, .b = 2, .room = MOST_ROOM}, {.net = &numbered, .k = k, .a = 1, .b = 2, .room = MOST_ROOM}};
+    double library[2] = {0}, baseline[2] = {0}, labels[2] = {0};
+    uint64_t seed = net.nodes;
+    uint32_t other = 0;
+    for (uint32_t i = 0; i < legs; i++) {
+        struct row least[2] = {{.library = INFINITY, .baseline = INFINITY}, {.library = INFINITY, .baseline = INFINITY}};
+        bool same = true;
+        q[0].leg = q[1].leg = network_leg(&net, across, down, &seed);
+        for (int turn = 0; turn < 2 * TURNS; turn++) {
+            struct row row = {0}, *of = &least[turn % 2];
+            measure(&q[turn % 2], &row);
+            same = same_answers(&q[turn % 2], &of_library);
+            of->library = fmin(of->library, row.library);
+            of->baseline = fmin(of->baseline, row.baseline);
+            of->labels = row.labels;
+        }
+        other += !same;
+        for (int n = 0; n < 2; n++) {
+            library[n] += least[n].library / legs * 1e3;
+            baseline[n] += least[n].baseline / legs * 1e3;
+            labels[n] += (double)least[n].labels / legs;
+        }
+    }
+    printf("%6" PRIu32 " %2" PRIu32 " %3" PRIu32 " + %-3" PRIu32 " %4" PRIu32 " %6" PRIu32 " %8.1f %8.1f %11.3f %11.3f %6.2f %11.3f %11.3f %6.2f\n", net.nodes, k, across, down, legs, other,
+           labels[0], labels[1], library[0], library[1], library[1] / library[0], baseline[0], baseline[1], baseline[1] / baseline[0]);
+    fflush(stdout);
+}
+
+static void make_both(uint32_t width, uint32_t height)
+{
+    make(&net, width, height, LONGEST);
+    make(&numbered, width, height, LONGEST);
+    network_number_streets(&numbered);
+}
+
+static void table_of_numbers(bool quick)
+{
+    printf("\nRoad numbers. The same legs over a network of zeros and over the same one with a road number for each street, one for both directions; 1/2, room for %d labels.\n"
+           "Other: in how many legs an answer or a label count is another. Labels: the mean of a query, all rounds. Ratio: with road numbers over with zeros.\n"
+           "%48s %30s %30s\n nodes  k    blocks legs  other    zeros  numbers       zeros     numbers  ratio       zeros     numbers  ratio\n",
+           MOST_ROOM, "labels", "library ms", "baseline ms");
+    for (uint32_t side = 16; side <= (quick ? 16 : 64); side *= 2) {
+        make_both(side, side);
+        for (uint32_t k = 2; k <= 4; k += 2)
+            row_of_numbers(quick ? QUICK_LEGS : LEGS, BLOCKS, BLOCKS, k);
+    }
+    for (uint32_t height = 8; height <= 16 && !quick; height *= 2) {
+        make_both(16, height);
+        row_of_numbers(QUICK_LEGS, net.width - 1, net.height - 1, 2);
+    }
 }
 
 /* The slope of the least-squares line through the n points. */
@@ -441,6 +510,7 @@ int main(int argc, char **argv)
     printf("Library and baseline, the same queries. Networks: a city grid with about one street in ten missing, lengths from 1 to %d, drawn from seed %d.\n",
            LONGEST, SEED);
     table_of_rows(quick);
+    table_of_numbers(quick);
     if (!quick) {
         table_of_growth();
         table_of_roads();

@@ -19,6 +19,8 @@ static void put(uint8_t *p, uint32_t v)
         p[i] = v >> 8 * i;
 }
 
+static uint32_t word(const uint8_t *p) { return p[0] | (uint32_t)p[1] << 8 | (uint32_t)p[2] << 16 | (uint32_t)p[3] << 24; }
+
 static void add_arc(struct network *net, uint32_t start, uint32_t end, uint32_t length)
 {
     uint8_t *record = net->table + net->bytes;
@@ -49,6 +51,16 @@ void network_make(struct network *net, uint32_t width, uint32_t height, uint32_t
             add_arc(net, v, v + 1, 1 + draw(&seed, longest));
         if (south[v])
             add_arc(net, v, v + width, 1 + draw(&seed, longest));
+    }
+}
+
+/* The street east of node v has number 2v + 1, the one south of it 2v + 2. */
+void network_number_streets(struct network *net)
+{
+    for (size_t i = 0; i < net->bytes; i += OJEONBUT_RECORD) {
+        uint32_t start = word(net->table + i), end = word(net->table + i + 4);
+        uint32_t near = start < end ? start : end, far = start < end ? end : start;
+        put(net->table + i + 12, 2 * near + (far - near == 1 && net->width > 1 ? 1 : 2));
     }
 }
 

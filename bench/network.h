@@ -21,6 +21,9 @@ struct leg {
 /* width * height must not exceed OJEONBUT_NODES. */
 void network_make(struct network *net, uint32_t width, uint32_t height, uint32_t longest, uint64_t seed);
 
+/* Gives both directions of each street one road number, from 1, and each street its own; network_make leaves them 0. */
+void network_number_streets(struct network *net);
+
 /* A drawn leg whose ends are `across` blocks apart from east to west, in either direction, and `down` blocks from north to south; `across` must be below the
  * width and `down` below the height. `seed` becomes that of the next leg. */
 struct leg network_leg(const struct network *net, uint32_t across, uint32_t down, uint64_t *seed);

@@ -17,10 +17,11 @@ extern "C" {
 #endif
 
 /* The version that this header declares; ojeonbut_version() gives the archive's. It goes up with every change that a caller can see: docs/CHANGES.md. */
-#define OJEONBUT_VERSION 4
+#define OJEONBUT_VERSION 5
 
-/* A road table: arc records of 16 bytes, little-endian: start node, end node, length, four zero bytes; 4 bytes each. Records stand in order of start node.
- * An arc's number is its record's, from 0; a node's is below the node count. */
+/* A road table: arc records of 16 bytes, little-endian: start node, end node, length, road number (bytes 12 to 15); 4 bytes each. Records stand in order of start node.
+ * An arc's number is its record's, from 0; a node's is below the node count. Arcs that have one road number other than 0 are of one road, as both sides of a street are;
+ * an arc with road number 0 is a road of its own. Any road number is taken. */
 #define OJEONBUT_RECORD 16      /* bytes of an arc record */
 #define OJEONBUT_NODES 4096     /* the most nodes; the least is 1 */
 #define OJEONBUT_ARCS 16384     /* the most arcs */
@@ -37,7 +38,7 @@ enum ojeonbut_outcome {
     OJEONBUT_NODE = 2,      /* a record names a node not below the node count; number: the record */
     OJEONBUT_LOOP = 3,      /* a record starts and ends at one node; number: the record */
     OJEONBUT_BAD_LENGTH = 4, /* a length is outside 1 to 1,000,000; number: the record */
-    OJEONBUT_ZEROS = 5,     /* bytes 12 to 15 of a record are not all zero; number: the record */
+    /* 5 is never given, and the number stays free */
     OJEONBUT_ORDER = 6,     /* a record's start node is below the one before it; number: the record */
     OJEONBUT_ENDS = 7,      /* start or goal not below the node count, or equal */
     OJEONBUT_WANTED = 8,    /* k outside 1 to 8 */
@@ -46,7 +47,8 @@ enum ojeonbut_outcome {
     OJEONBUT_ROOM = 11,     /* a round needs more labels than were lent; number: the round, from 1 */
     OJEONBUT_SIZE = 13,     /* node count outside 1 to 4,096, table bytes not a multiple of 16, or over 16,384 records */
     OJEONBUT_FILE = 14,     /* a road file is malformed; number: its first line, from 1, that is none of the permitted ones, or the number a missing line would have */
-    OJEONBUT_CLOSURES = 15  /* closure bytes of another number than the arcs, or one that is neither 0 nor 1 */
+    OJEONBUT_CLOSURES = 15, /* closure bytes of another number than the arcs, or one that is neither 0 nor 1 */
+    OJEONBUT_NUMBERED = 27  /* a table to be written as a road file has a road number other than 0; number: the record, the lowest such */
 };
 
 typedef struct ojeonbut_reply {
@@ -90,7 +92,8 @@ ojeonbut_reply ojeonbut_check(const uint8_t *table, size_t table_bytes, uint32_t
 /* Where the records of the arcs that leave `node` stand in the table; { 0, 0 } where the table has a fault or `node` is not below `nodes`. Writes nothing. */
 ojeonbut_part ojeonbut_arcs_from(const uint8_t *table, size_t table_bytes, uint32_t nodes, uint32_t node);
 
-/* The query: k routes from start to goal, each the shortest whose overlap with every earlier one is at most a/b of that one's length.
+/* The query: k routes from start to goal, each the shortest whose overlap with every earlier one is at most a/b of that one's length. The overlap is the length of its arcs
+ * whose road the earlier one drives: an arc that stands on both routes, or one whose road number is not 0 and is that of an arc of the earlier one.
  * Checks come in the order 13, the records (2 to 6), 7, 8, 9, 10; then the rounds.
  *
  * After a refusal (2 to 10 and 13) no byte of any buffer is changed. After 0, 1 or 11:
@@ -123,12 +126,13 @@ size_t ojeonbut_next_arc(const uint8_t *closed, size_t closed_bytes, size_t plac
  * and any bytes; one line `p sp NODES ARCS` before every `a`; and ARCS lines `a TAIL HEAD LENGTH`, nodes counted from 1. One space between parts; numbers in decimal,
  * without sign or leading zero, at most 4,294,967,295.
  *
- * Reads one into a table at the front of `table`: the arcs in order of start node, those of one start node as they stand in the file. Refusals: 14; then 13 and 2 to 4 on the
+ * Reads one into a table at the front of `table`: the arcs in order of start node, those of one start node as they stand in the file, all with road number 0. Refusals: 14; then 13 and 2 to 4 on the
  * table made, by its own record numbers; then 10 where table_bytes is below 16 for each arc. A refusal changes no byte; nor does a read past the table made. */
 ojeonbut_made ojeonbut_read_roads(const uint8_t *text, size_t text_bytes, uint8_t *table, size_t table_bytes);
 
-/* Writes a table as a road file at the front of `text`: `p sp NODES ARCS`, then the arcs in their order. Refusals: 13 and 2 to 6, as ojeonbut_check; then 10 where text_bytes is
- * below the file's. A refusal changes no byte; nor does a write past the file made. Reading the file gives the table back, byte for byte, and its node count. */
+/* Writes a table as a road file at the front of `text`: `p sp NODES ARCS`, then the arcs in their order. Refusals: 13 and 2 to 6, as ojeonbut_check; then 27, since a road
+ * file carries no road numbers; then 10 where text_bytes is below the file's. A refusal changes no byte; nor does a write past the file made. Reading the file gives the table
+ * back, byte for byte, and its node count. */
 ojeonbut_made ojeonbut_write_roads(const uint8_t *table, size_t table_bytes, uint32_t nodes, uint8_t *text, size_t text_bytes);
 
 #ifdef __cplusplus

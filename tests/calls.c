@@ -1,6 +1,6 @@
-/* The archive's version, and its other calls on drawn small tables, queries and closures, right and spoilt, in buffers that lie in junk. Each outcome, and every byte that is to be zero, filled or
- * untouched, is held against the baseline's answer and against the refusals written out here. Prints how many calls there were and how often each outcome occurred; exits 1
- * where one differs, and prints the first that does. */
+/* The archive's version, and its other calls on drawn small tables, road numbers, queries and closures, right and spoilt, in buffers that lie in junk. Each outcome, and every
+ * byte that is to be zero, filled or untouched, is held against the baseline's answer and against the refusals written out here. Prints how many calls there were, how often
+ * each outcome occurred, and how often road numbers make a difference; exits 1 where one differs, and prints the first that does. */
 #include "baseline.h"
 
 #include <stdbool.h>
@@ -43,6 +43,22 @@ static void put(uint8_t *p, uint32_t v)
         p[i] = (uint8_t)(v >> 8 * i);
 }
 
+/* The road number of the arc at `record`, one of so many; in five manners of twelve 0. */
+static uint32_t draw_road(uint32_t manner, const uint8_t *record, uint32_t arcs)
+{
+    uint32_t from = word(record), to = word(record + 4);
+    switch (manner) {
+    case 0: return from < to ? from * NODES + to : to * NODES + from; /* both sides of a street */
+    case 1: return 7 * (draw(arcs) < 2);                              /* about two arcs of one road */
+    case 2: return draw(3);                                           /* few roads */
+    case 3: return 5;                                                 /* one road */
+    case 4: return 0u - draw(3);                                      /* the greatest numbers */
+    case 5: return 1u << 8 * draw(4);                                 /* told apart by one byte */
+    case 6: return draw(arcs);                                        /* the numbers of arcs */
+    default: return 0;
+    }
+}
+
 /* A query that no refusal is due to, of few nodes and mostly short lengths, so that ties and parallel arcs are common. */
 static struct query draw_query(void)
 {
@@ -60,6 +76,9 @@ static struct query draw_query(void)
         put(record + 4, (from + 1 + draw(q.nodes - 1)) % q.nodes);
         put(record + 8, long_ones ? OJEONBUT_LENGTH - draw(1000) : 1 + draw(4));
     }
+    uint32_t roads = draw(12);
+    for (uint32_t i = 0; i < arcs; i++)
+        put(q.table + i * OJEONBUT_RECORD + 12, draw_road(roads, q.table + i * OJEONBUT_RECORD, arcs));
     q.table_bytes = arcs * OJEONBUT_RECORD;
     q.closed_bytes = arcs;
     uint32_t manner = draw(8), node = draw(q.nodes); /* of closing: none, all arcs of one node, or one in so many */
@@ -76,24 +95,23 @@ static struct query draw_query(void)
 static void spoil(struct query *q)
 {
     uint8_t *record = q->table + draw(ARCS) * OJEONBUT_RECORD;
-    switch (draw(22)) {
+    switch (draw(21)) {
     case 0: put(record + 4 * draw(2), draw(2) ? q->nodes : 0xffffffff); break;
     case 1: put(record + 4, word(record)); break;
     case 2: put(record + 8, draw(2) ? 0 : OJEONBUT_LENGTH + 1); break;
-    case 3: record[12 + draw(4)] = (uint8_t)(1 + draw(255)); break;
-    case 4: put(record, 0); break;
-    case 5: q->start = draw(2) ? q->goal : q->nodes; break;
-    case 6: q->goal = draw(2) ? q->nodes : 0xffffffff; break;
-    case 7: q->k = draw(2) ? 0 : OJEONBUT_ROUTES + 1; break;
-    case 8: q->a = q->b; break;
-    case 9: q->b = draw(2) ? 0 : 1001; break;
-    case 10: q->area_words = q->k * (q->nodes - 1) - 1; break;
-    case 11: q->summary_count = q->k - 1; break;
-    case 12: q->nodes = draw(2) ? 0 : OJEONBUT_NODES + 1; break;
-    case 13: q->table_bytes += 1 + draw(15); break;
-    case 14: q->closed_bytes = draw(2) ? q->closed_bytes + 1 : q->closed_bytes ? draw((uint32_t)q->closed_bytes) : 1; break;
-    case 15: q->closed[draw(ARCS)] = (uint8_t)(2 + draw(254)); break;
-    case 16: q->ratio_count = q->k - 1; break;
+    case 3: put(record, 0); break;
+    case 4: q->start = draw(2) ? q->goal : q->nodes; break;
+    case 5: q->goal = draw(2) ? q->nodes : 0xffffffff; break;
+    case 6: q->k = draw(2) ? 0 : OJEONBUT_ROUTES + 1; break;
+    case 7: q->a = q->b; break;
+    case 8: q->b = draw(2) ? 0 : 1001; break;
+    case 9: q->area_words = q->k * (q->nodes - 1) - 1; break;
+    case 10: q->summary_count = q->k - 1; break;
+    case 11: q->nodes = draw(2) ? 0 : OJEONBUT_NODES + 1; break;
+    case 12: q->table_bytes += 1 + draw(15); break;
+    case 13: q->closed_bytes = draw(2) ? q->closed_bytes + 1 : q->closed_bytes ? draw((uint32_t)q->closed_bytes) : 1; break;
+    case 14: q->closed[draw(ARCS)] = (uint8_t)(2 + draw(254)); break;
+    case 15: q->ratio_count = q->k - 1; break;
     default: break;
     }
 }
@@ -109,7 +127,6 @@ static ojeonbut_reply table_fault(const struct query *q)
         uint32_t fault = from >= q->nodes || to >= q->nodes                ? OJEONBUT_NODE
                          : from == to                                      ? OJEONBUT_LOOP
                          : length < 1 || length > OJEONBUT_LENGTH          ? OJEONBUT_BAD_LENGTH
-                         : word(record + 12)                               ? OJEONBUT_ZEROS
                          : from < before                                   ? OJEONBUT_ORDER
                                                                            : 0;
         if (fault)
@@ -170,14 +187,23 @@ static ojeonbut_reply ask_ratios(const struct query *q, struct lent *m)
                                  q->label_bytes, m->area + AROUND, q->area_words, m->summaries + AROUND, q->summary_count, m->ratios + AROUND, q->ratio_count);
 }
 
-/* The length of the arcs that stand on both slots. */
+static bool one_road(const struct query *q, uint32_t arc, uint32_t other)
+{
+    uint32_t road = word(q->table + arc * OJEONBUT_RECORD + 12);
+    return arc == other || (road && road == word(q->table + other * OJEONBUT_RECORD + 12));
+}
+
+/* The length of the slot's arcs whose road the earlier slot drives. */
 static uint64_t overlap(const struct query *q, const uint32_t *slot, const uint32_t *earlier)
 {
     uint64_t sum = 0;
-    for (uint32_t i = 0; i + 1 < q->nodes && slot[i] != OJEONBUT_NONE; i++)
-        for (uint32_t j = 0; j + 1 < q->nodes; j++)
-            if (slot[i] == earlier[j])
-                sum += word(q->table + slot[i] * OJEONBUT_RECORD + 8);
+    for (uint32_t i = 0; i + 1 < q->nodes && slot[i] != OJEONBUT_NONE; i++) {
+        bool driven = false;
+        for (uint32_t j = 0; j + 1 < q->nodes && earlier[j] != OJEONBUT_NONE; j++)
+            driven = driven || one_road(q, slot[i], earlier[j]);
+        if (driven)
+            sum += word(q->table + slot[i] * OJEONBUT_RECORD + 8);
+    }
     return sum;
 }
 
@@ -215,6 +241,22 @@ static bool query_as_due(const struct query *q, enum manner manner, ojeonbut_rep
     }
     *got = manner == PLAIN ? ask(ojeonbut_query, q, &found) : manner == CLOSING ? ask_closed(ojeonbut_query_closed, q, &found) : ask_ratios(q, &found);
     return got->outcome == r.outcome && got->number == r.number && memcmp(&due, &found, sizeof due) == 0;
+}
+
+/* Whether a query without refusal has road numbers, and whether these make a difference: 0 for none, 1 for numbers that make none, else 2. */
+static int roads_matter(const struct query *q)
+{
+    static struct lent due, zeros;
+    struct query plain = *q;
+    for (size_t i = 0; i < q->table_bytes / OJEONBUT_RECORD; i++)
+        put(plain.table + i * OJEONBUT_RECORD + 12, 0);
+    if (refusal(q, PLAIN).outcome || memcmp(plain.table, q->table, q->table_bytes) == 0)
+        return 0;
+    memset(&due, JUNK, sizeof due);
+    memset(&zeros, JUNK, sizeof zeros);
+    ojeonbut_reply r = ask(baseline_query, q, &due), z = ask(baseline_query, &plain, &zeros);
+    bool same = r.outcome == z.outcome && r.number == z.number && memcmp(due.area, zeros.area, sizeof due.area) == 0 && memcmp(due.summaries, zeros.summaries, sizeof due.summaries) == 0;
+    return same ? 1 : 2;
 }
 
 /* From every place to every end, past the bytes too: the first that is open, or the end. */
@@ -275,10 +317,11 @@ static bool limit_as_due(void)
 
 int main(void)
 {
-    uint32_t as_due = 0, outcomes[OJEONBUT_CLOSURES + 1] = {0};
+    uint32_t as_due = 0, outcomes[OJEONBUT_CLOSURES + 1] = {0}, roads[3] = {0};
     for (uint32_t i = 0; i < CASES; i++) {
         struct query q = draw_query();
         spoil(&q);
+        roads[roads_matter(&q)]++;
         bool right = table_as_due(&q) && steps_as_due(&q);
         ojeonbut_reply wrong = {0, 0};
         for (enum manner manner = PLAIN; manner < MANNERS; manner++) {
@@ -298,5 +341,6 @@ int main(void)
     printf("version %s; drawn cases %d, as due %u; the limit of labels %s\noutcomes:", version ? "as due" : "NOT as due", CASES, as_due, limit ? "as due" : "NOT as due");
     for (int i = 0; i <= OJEONBUT_CLOSURES; i++)
         printf(" %d in %u%s", i, outcomes[i], i < OJEONBUT_CLOSURES ? "," : "\n");
+    printf("rounds reached with road numbers in %u cases, in %u of them another answer or label count than with zeros\n", roads[1] + roads[2], roads[2]);
     return version && as_due == CASES && limit ? 0 : 1;
 }

@@ -9,7 +9,7 @@
 #include <string.h>
 #include <time.h>
 
-enum { CASES = 20000, NODES = 6, ARCS = 10, TEXT = 1024, AREA = (ARCS + 2) * OJEONBUT_RECORD, AROUND = 32, JUNK = 0xa5, OUTCOMES = OJEONBUT_FILE + 1 };
+enum { CASES = 20000, NODES = 6, ARCS = 10, TEXT = 1024, AREA = (ARCS + 2) * OJEONBUT_RECORD, AROUND = 32, JUNK = 0xa5, OUTCOMES = OJEONBUT_NUMBERED + 1 };
 
 static uint64_t state = 1;
 
@@ -220,7 +220,17 @@ static size_t due_write(const uint8_t *table, size_t bytes, uint32_t nodes, char
     return n;
 }
 
-/* A table, right or with one number or its length made wrong, written; and read again where it was written. */
+/* The fault of a table, or 27 with its lowest record that has a road number, or outcome 0. */
+static ojeonbut_reply due_refusal(const uint8_t *table, size_t bytes, uint32_t nodes)
+{
+    ojeonbut_reply fault = ojeonbut_check(table, bytes, nodes); /* tests/calls.c holds it to the rules */
+    for (uint32_t i = 0; !fault.outcome && i < bytes / OJEONBUT_RECORD; i++)
+        if (word(table + i * OJEONBUT_RECORD + 12))
+            fault = (ojeonbut_reply){OJEONBUT_NUMBERED, i};
+    return fault;
+}
+
+/* A table, right or with one number or its length made wrong or with road numbers, written; and read again where it was written. */
 static bool write_as_due(void)
 {
     static uint8_t table[AREA], again[AREA + AROUND];
@@ -236,13 +246,15 @@ static bool write_as_due(void)
     size_t bytes = arcs * (size_t)OJEONBUT_RECORD;
     if (arcs && draw(4) == 0)
         put(table + draw(arcs) * OJEONBUT_RECORD + 4 * draw(4), draw(NODES));
+    while (arcs && draw(8) == 0)
+        table[draw(arcs) * OJEONBUT_RECORD + 12 + draw(4)] = (uint8_t)(1 + draw(255));
     if (draw(16) == 0)
         bytes += 1 + draw(15);
     if (draw(16) == 0)
         nodes = draw(2) ? 0 : OJEONBUT_NODES + 1;
     memset(due, JUNK, sizeof due);
     memset(found, JUNK, sizeof found);
-    ojeonbut_reply fault = ojeonbut_check(table, bytes, nodes); /* tests/calls.c holds it to the rules */
+    ojeonbut_reply fault = due_refusal(table, bytes, nodes);
     size_t n = 0, room = draw(TEXT);
     char text[TEXT];
     if (!fault.outcome) {

@@ -1,8 +1,9 @@
 //! Safe calls of the proved route search. Outcomes, tables and buffers are those of include/ojeonbut.h.
+//! A record of a table is an arc: start node, end node, length and road number, 4 bytes each, little-endian; road number 0 is a road of its own.
 //! What that header asks of a caller, Rust's slices ensure: they are valid for their lengths, and a `&mut` one overlaps no other.
 
 /// The version of include/ojeonbut.h that these calls are for. Each call asks once that the archive linked is of it, and panics where it is not.
-pub const VERSION: u32 = 4;
+pub const VERSION: u32 = 5;
 
 /// The outcomes, by number. What the number beside each says is in include/ojeonbut.h.
 pub mod outcome {
@@ -16,8 +17,7 @@ pub mod outcome {
     pub const LOOP: u32 = 3;
     /// A length is outside 1 to 1,000,000.
     pub const BAD_LENGTH: u32 = 4;
-    /// Bytes 12 to 15 of a record are not all zero.
-    pub const ZEROS: u32 = 5;
+    // 5 is never given, and the number stays free.
     /// A record's start node is below the one before it.
     pub const ORDER: u32 = 6;
     /// Start or goal not below the node count, or equal.
@@ -36,6 +36,8 @@ pub mod outcome {
     pub const FILE: u32 = 14;
     /// Closure bytes of another number than the arcs, or one that is neither 0 nor 1.
     pub const CLOSURES: u32 = 15;
+    /// A table to be written as a road file has a road number other than 0; beside it stands the record.
+    pub const NUMBERED: u32 = 27;
 }
 
 /// The outcome's number, and the number beside it.

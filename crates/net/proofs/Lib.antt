@@ -2,6 +2,7 @@ pub mod Figures
 pub mod Valid
 pub mod Order
 pub mod Overlap
+pub mod Streets
 pub mod Lengths
 pub mod Chains
 pub mod Guide
@@ -20,3 +21,4 @@ pub mod Unused
 pub mod RoundLaws
 pub mod Longer
 pub mod LongerFigures
+pub mod StreetFigures

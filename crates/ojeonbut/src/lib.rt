@@ -13,7 +13,7 @@ ghost use Rattle.road_write.specs.Written.{Written};
 ghost use Rattle.ojeonbut.specs.Exported.{version, runPart, partOf, numbersOf, Numbered};
 
 // OJEONBUT_VERSION of include/ojeonbut.h.
-const VERSION: u32 = 4;
+const VERSION: u32 = 5;
 
 // A part of a table: the place of its first byte, and its number of bytes.
 #[repr(C)]

@@ -22,9 +22,7 @@ loop = 3
 abbrev pub lengthOut : ℕ
 lengthOut = 4
 
--- "bytes 12 to 15 are not all zero"
-abbrev pub zeros : ℕ
-zeros = 5
+-- 5 "is never given any longer" (02.5): the number stays free.
 
 -- "a record's start node is below the one before it"
 abbrev pub order : ℕ
@@ -65,6 +63,10 @@ file = 14
 -- "closure bytes of another number than the arcs or with another value" (02.3)
 abbrev pub closures : ℕ
 closures = 15
+
+-- "the writer meets a road number that isn't zero, with the lowest such record" (02.5)
+abbrev pub numbered : ℕ
+numbered = 27
 
 -- "Where no number is named, 0 is returned beside the outcome."
 abbrev pub plain : ℕ → Told

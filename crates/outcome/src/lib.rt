@@ -19,8 +19,6 @@ pub const LOOP: u32 = 3;
 
 pub const LENGTH: u32 = 4;
 
-pub const ZEROS: u32 = 5;
-
 pub const ORDER: u32 = 6;
 
 pub const ENDS: u32 = 7;
@@ -40,6 +38,8 @@ pub const SIZE: u32 = 13;
 pub const FILE: u32 = 14;
 
 pub const CLOSURES: u32 = 15;
+
+pub const NUMBERED: u32 = 27;
 
 // An outcome beside which no number is named.
 pub fn plain(outcome: u32) -> Told

@@ -1,4 +1,4 @@
--- The proved cases, asked of the call: table T and the two-arc table of P11 in bytes are good and give the theory's arcs, and buffers of just the size that a case needs
+-- The proved cases, asked of the call: table T and the two-arc table of P11 in bytes are good, have no road numbers and give the theory's arcs, and buffers of just the size that a case needs
 -- are large enough. So `figure-told` and `figure-made` say of each row's own input what the P table says.
 use mathlib.Core.Path.{_≡_, refl, sym, ap, ap₂, subst, _∙_}
 use mathlib.Core.Bool.{true, false, cond}
@@ -18,6 +18,8 @@ use Rattle.words.specs.Number.{num}
 use Rattle.labels.specs.Field.{labelBytes}
 use Rattle.table.specs.Table.{arcsOf, tableOf}
 use Rattle.table.specs.Fault.{tableFault, good}
+use Rattle.table.proofs.TableLaws.{made-no-roads}
+use Rattle.table.proofs.NetLaws.{no-roads}
 use Rattle.query_rounds.specs.Area.{areaWith}
 use Rattle.query_rounds.specs.Progress.{asRecord}
 use Rattle.query.specs.Query.{Input, queryOf, width, tooSmall, reaches, areaDue, sumsDue, Replied}
@@ -64,7 +66,8 @@ module _ (arcs : List Arc) (nodes s goal k a b room : ℕ) where
   room-is = ap (λ n. n / labelBytes) (length-zeros (room * labelBytes)) ∙ mul-div-cancel room (omega arith)
 
   pub asking-query : arcsOf (tableOf arcs) ≡ arcs → queryOf (asking arcs nodes s goal k a b room) ≡ record { net = plain nodes arcs; s = s; t = goal; a = a; b = b; room = room }
-  asking-query e = ap₂ {C = Query} (λ x r. record { net = plain nodes x; s = s; t = goal; a = a; b = b; room = r }) e room-is
+  asking-query e =
+      ap₂ {C = Query} (λ n r. record { net = n; s = s; t = goal; a = a; b = b; room = r }) (no-roads (tableOf arcs) (made-no-roads arcs) nodes [] ∙ ap (plain nodes) e) room-is
 
   pub asking-large : room ≤ mostLabels → tooSmall (asking arcs nodes s goal k a b room) ≡ false
   unfolding tooSmall

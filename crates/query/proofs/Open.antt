@@ -8,13 +8,13 @@ use lib.Dec.{ltb, eqb}
 use lib.ListN.{length, getD, drop, replicate}
 use borrow.Author.Tests.{eq-eqb}
 use Rattle.lists.specs.Tests.{upFrom, any}
-use Rattle.net.specs.Net.{only}
+use Rattle.net.specs.Net.{streets, only}
 use Rattle.net.specs.Round.{Query}
 use Rattle.net.specs.Outcome.{told, rounds, answers, summaries, refusal}
 use Rattle.outcome.specs.declared.Told.{Told}
 use Rattle.outcome.specs.Outcome.{plain, closures, buffers}
 use Rattle.summary.specs.declared.Summary.{Summary}
-use Rattle.table.specs.Table.{records, arcsOf}
+use Rattle.table.specs.Table.{records, arcsOf, roadsOf}
 use Rattle.table.specs.Fault.{tableFault, good}
 use Rattle.closures.specs.Closed.{wrong}
 use Rattle.search_ask.specs.declared.Ask.{Ask}
@@ -38,7 +38,7 @@ module _ (table closed : List ℕ) (ask : Ask) (k lent : ℕ) (labels area : Lis
 
   same-query : queryOf lends ≡ queryOf without
   same-query =
-      ap {B = Query} (λ u. record { net = only u (Rattle.net.specs.Net.plain (ask .nodes) (arcsOf table)); s = ask .s; t = ask .goal; a = ask .a; b = ask .b; room = roomIn labels })
+      ap {B = Query} (λ u. record { net = only u (streets (roadsOf table) (Rattle.net.specs.Net.plain (ask .nodes) (arcsOf table))); s = ask .s; t = ask .goal; a = ask .a; b = ask .b; room = roomIn labels })
       (fun-ext (λ a. eq-eqb (getD closed a 0) 0 (zeros a)))
 
   right : wrongClosures lends ≡ false

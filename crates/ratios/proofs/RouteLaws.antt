@@ -22,7 +22,7 @@ use Rattle.search_ask.specs.declared.Ask.{Ask}
 use Rattle.search_ask.specs.Ask.{netFor, width}
 use Rattle.search_ask.specs.Earlier.{routeIn, earlierIn}
 use Rattle.search_ask.proofs.AskLaws.{nodes-most, lengths-most}
-use Rattle.search_trial.proofs.OverlapLaws.{slot-end}
+use Rattle.search_ask.proofs.EarlierLaws.{slot-end}
 use Rattle.ratios.specs.Ratios.{shareWith, noShare, greaterOf, greatestFrom, firstOf}
 use Rattle.ratios.specs.Routes.{Routes, routeAt}
 use Rattle.ratios.specs.declared.Fraction.{Fraction}

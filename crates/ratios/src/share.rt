@@ -34,7 +34,7 @@ fn overlap(table: &[u8], ask: Ask, q: &[u32], p: &[u32]) -> u64
     let mut i = 0;
     while i < q.len() {
         let arc = q[i] as usize;
-        total += search_trial::overlap::shared(table, ask, p, arc);
+        total += search_driven::shared(table, ask, p, arc);
         i += 1;
     }
     total

@@ -1,5 +1,5 @@
--- The fault of the table of the arcs in order is that of the picked arc. Record i of a table is arc i's (`table-reads`), if the arc's numbers fit four bytes, and
--- bytes 12 to 15 are zero. Of arcs in order none starts below the one before it, so a record's fault is its arc's by itself (`fault-is`). A table's length is 16
+-- The fault of the table of the arcs in order is that of the picked arc. Record i of a table is arc i's (`table-reads`), if the arc's numbers fit four bytes.
+-- Of arcs in order none starts below the one before it, so a record's fault is its arc's by itself (`fault-is`). A table's length is 16
 -- times its arcs, so its size is wrong by the node count or the number of arcs alone (`size-is`). Where no arc is picked no record has a fault, and the scan ends
 -- good; else the picked arc's rank is the number of the first record with a fault, and the scan stops there.
 use mathlib.Core.Path.{_≡_, refl, sym, ap, _∙_}
@@ -21,9 +21,9 @@ use Rattle.net.specs.Limits.{mostNodes, mostArcs}
 use Rattle.net.specs.Net.{Arc, arc}
 use Rattle.outcome.specs.Outcome.{size, plain, beside}
 use Rattle.net.specs.Small.{Small, AllSmall}
-use Rattle.table.specs.Table.{recordBytes, records, fromAt, toAt, lenAt, zerosAt, recordOf, tableOf}
+use Rattle.table.specs.Table.{recordBytes, records, fromAt, toAt, lenAt, recordOf, tableOf}
 use Rattle.table.specs.Fault.{faultOf, prevOf, faultAt, good, lowest, wrongSize, tableFault}
-use Rattle.table.proofs.TableLaws.{length-recordOf, length-tableOf}
+use Rattle.table.proofs.TableLaws.{length-tableOf, num-further}
 use Rattle.road_order.specs.Ordered.{ordered}
 use Rattle.road_order.specs.Lowest.{Pick, noPick, picked, rank, firstFault}
 use Rattle.road_order.proofs.OrderedLaws.{InOrder, ordered-in-order}
@@ -37,7 +37,6 @@ record Reads (t : List ℕ) (i : ℕ) (x : Arc) : Type 0 where
   from-is : fromAt t i ≡ x .from
   to-is : toAt t i ≡ x .to
   len-is : lenAt t i ≡ x .len
-  zeros-is : zerosAt t i ≡ 0
 
 reads-first : (x : Arc) (l : List ℕ) → Small x → Reads (recordOf x ++ l) 0 x
 unfolding recordOf bytesOf
@@ -50,14 +49,7 @@ reads-first x l s =
       from-is = num-bytes 4 [] (v ++ (w ++ (z ++ l))) 0 (x .from) refl (s .0);
       to-is = num-bytes 4 u (w ++ (z ++ l)) 4 (x .to) refl (s .1);
       len-is = num-bytes 4 (u ++ v) (z ++ l) 8 (x .len) refl (s .2);
-      zeros-is = num-bytes 4 (u ++ (v ++ w)) l 12 0 refl (omega arith);
     }
-
--- a record further on is one of the rest
-num-further : (x : Arc) (l : List ℕ) (i o : ℕ) → num 4 (recordOf x ++ l) (suc i * recordBytes + o) ≡ num 4 l (i * recordBytes + o)
-num-further x l i o =
-    let e : suc i * recordBytes + o ≡ 16 + (i * recordBytes + o) = omega arith in
-    rw e (sym (num-drop 4 16 (recordOf x ++ l) (i * recordBytes + o)) ∙ ap (λ m. num 4 m (i * recordBytes + o)) (drop-at (recordOf x) l 16 (length-recordOf x)))
 
 table-reads : (xs : List Arc) → AllSmall xs → (i : ℕ) → i < length xs → Reads (tableOf xs) i (arc xs i)
 unfolding tableOf
@@ -69,7 +61,6 @@ table-reads (x ∷ xs) s (suc i) h =
       from-is = num-further x (tableOf xs) i 0 ∙ r .from-is;
       to-is = num-further x (tableOf xs) i 4 ∙ r .to-is;
       len-is = num-further x (tableOf xs) i 8 ∙ r .len-is;
-      zeros-is = num-further x (tableOf xs) i 12 ∙ r .zeros-is;
     }
 
 -- ---- the arcs in order
@@ -94,13 +85,13 @@ prev-at-most xs s k zero h = omega arith
 prev-at-most xs s k (suc i) h = omega (arith, table-reads xs s i (omega arith) .from-is, in-order-at xs k i h)
 
 -- a record not below the one before it has the fault it has as the first
-fault-in-order : (nodes prev from to len rest : ℕ) → prev ≤ from → faultOf nodes prev from to len rest ≡ faultOf nodes 0 from to len rest
+fault-in-order : (nodes prev from to len : ℕ) → prev ≤ from → faultOf nodes prev from to len ≡ faultOf nodes 0 from to len
 unfolding faultOf
-fault-in-order nodes prev from to len rest h = rw (le-ltb from prev h, le-ltb from 0 (omega arith))
+fault-in-order nodes prev from to len h = rw (le-ltb from prev h, le-ltb from 0 (omega arith))
 
 fault-reads : (nodes : ℕ) (t : List ℕ) (i : ℕ) (x : Arc) → Reads t i x → prevOf t i ≤ x .from → faultAt nodes t i ≡ faultBy nodes x
 unfolding faultAt faultBy
-fault-reads nodes t i x r h = rw (r .from-is, r .to-is, r .len-is, r .zeros-is) (fault-in-order nodes (prevOf t i) (x .from) (x .to) (x .len) 0 h)
+fault-reads nodes t i x r h = rw (r .from-is, r .to-is, r .len-is) (fault-in-order nodes (prevOf t i) (x .from) (x .to) (x .len) h)
 
 -- ---- a scan
 

@@ -10,10 +10,10 @@ use Rattle.road_file.specs.declared.Reader.{Reader}
 use Rattle.road_order.specs.Lowest.{Pick, noPick, better, picked}
 use Rattle.road_judge.specs.declared.Judged.{Judged}
 
--- 2, 3 or 4 of an arc by itself, or 0: in the table made bytes 12 to 15 are zero, and the arcs are in order.
+-- 2, 3 or 4 of an arc by itself, or 0: in the table made the arcs are in order.
 unfoldable pub faultBy : ℕ → Arc → ℕ
 unfolding faultOf
-faultBy nodes a = faultOf nodes 0 (a .from) (a .to) (a .len) 0
+faultBy nodes a = faultOf nodes 0 (a .from) (a .to) (a .len)
 
 abbrev pub pickOf : Judged → Pick
 pickOf j = record { fault = j .fault; start = j .start; at = j .at }

@@ -25,7 +25,7 @@ pub struct Found {
 fn judge(j: Judged, r: Reader, i: u32) -> Judged
     ensures { λ y. ⌜ pickOf y ≡ better (faultBy (r .nodes)) i (pickOf j) (lastBy r) ⌝ }
 {
-    let fault = table::fault::fault_of(r.nodes, 0, r.from, r.to, r.len, 0);
+    let fault = table::fault::fault_of(r.nodes, 0, r.from, r.to, r.len);
     if fault == 0 {
         return j;
     }

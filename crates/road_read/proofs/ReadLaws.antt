@@ -1,5 +1,5 @@
 -- Each way to the end of a read is one case of the contract: what the reader's wrong line tells decides between a malformed file and roads, and of these the table's
--- fault and the room decide.
+-- fault and the room decide. The table that is due is one of zeros: each of its records ends in four of them.
 use mathlib.Core.Path.{_≡_, refl, sym, ap, subst, _∙_}
 use mathlib.Core.List.{List, _++_}
 use mathlib.Core.Bool.{Bool, true, false, not, _&&_, _||_}
@@ -12,8 +12,9 @@ use borrow.Author.Tests.{lt-leb, le-leb, lt-ltb, le-ltb}
 use Rattle.outcome.specs.declared.Told.{Told}
 use Rattle.outcome.specs.Outcome.{file, buffers, size, plain, beside}
 use Rattle.net.specs.Net.{Arc}
+use Rattle.table.specs.Table.{NoRoads}
 use Rattle.table.specs.Fault.{wrongSize, tableFault, good}
-use Rattle.table.proofs.TableLaws.{length-tableOf}
+use Rattle.table.proofs.TableLaws.{length-tableOf, made-no-roads}
 use Rattle.table.proofs.FaultLaws.{told-good}
 use Rattle.net.specs.Limits.{mostNodes, mostArcs}
 use Rattle.road_order.specs.Ordered.{ordered}
@@ -31,6 +32,9 @@ use Rattle.road_read.specs.Read.{tableDue, Tabled, ReadAs, Read}
 
 pub length-due : (arcs : List Arc) → length (tableDue arcs) ≡ length arcs * 16
 length-due arcs = length-tableOf (ordered arcs) ∙ ap (λ n. n * 16) (length-ordered arcs)
+
+pub due-no-roads : (arcs : List Arc) → NoRoads (tableDue arcs)
+due-no-roads arcs = made-no-roads (ordered arcs)
 
 module _ (text table : List ℕ) where
   abbrev arcs : List Arc

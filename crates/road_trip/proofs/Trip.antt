@@ -1,6 +1,7 @@
--- Writing a table and reading it back. In a good table bytes 12 to 15 of every record are zero, so that clearing them changes nothing, and the table of its arcs is
--- the table itself; its records stand in order of start node, so that ordering its arcs changes nothing either. Its numbers are within their limits, so its text tells
--- them and reads as the same roads (`written-reads`), and what a read makes of these is the table. A read that is done has made a good table, so that this holds of it.
+-- Writing a table and reading it back. In a table of zeros clearing bytes 12 to 15 of every record changes nothing, so that the table of its arcs is the table itself.
+-- Where the table is good its records stand in order of start node, so that ordering its arcs changes nothing either. Its numbers are within their limits, so its text
+-- tells them and reads as the same roads (`written-reads`), and what a read makes of these is the table. A write that is done had a good table of zeros, and so has a
+-- read that is done made one: this holds of both.
 use mathlib.Core.Path.{_≡_, refl, sym, ap, ap₂, subst, _∙_}
 use mathlib.Core.List.{List, [], _∷_, _++_, append-nil, List·Memᴰ, List·Memᴰ·not-nil, List·Memᴰ·cases-cons}
 use mathlib.Core.Logic.{_≢_, ⊎-elim}
@@ -17,7 +18,7 @@ use Rattle.outcome.specs.Outcome.{found, plain}
 use Rattle.words.specs.Number.{num, put, bytesOf}
 use Rattle.words.proofs.BytesLaws.{put-is, bytes-append, bytes-bytesOf, number-first}
 use Rattle.net.specs.Net.{Arc}
-use Rattle.table.specs.Table.{records, zerosAt, arcAt, arcsOf, recordOf, tableOf}
+use Rattle.table.specs.Table.{records, roadAt, NoRoads, arcAt, arcsOf, recordOf, tableOf}
 use Rattle.table.specs.Fault.{prevOf, tableFault, good}
 use Rattle.table.proofs.FaultLaws.{told-good, all-good, good-size}
 use Rattle.table.proofs.NetLaws.{arcs-length}
@@ -29,7 +30,9 @@ use Rattle.road_fill.proofs.ClearLaws.{cleared-none, cleared-step}
 use Rattle.road_made.specs.declared.Made.{Made}
 use Rattle.road_made.specs.Made.{toldOf, bytesMade, nodesMade, Made-of}
 use Rattle.road_read.specs.Read.{tableDue, Tabled, ReadAs, Read}
-use Rattle.road_write.specs.Written.{textOf, Written}
+use Rattle.road_read.proofs.ReadLaws.{due-no-roads}
+use Rattle.road_write.specs.Written.{textOf, firstRoad, Written}
+use Rattle.road_write.proofs.RoadLaws.{road-le, first-none, none-first}
 use Rattle.road_trip.specs.Text.{Tellable}
 use Rattle.road_trip.proofs.Written.{written-reads}
 
@@ -42,7 +45,7 @@ module _ (t : List ℕ) (bytes : (k : ℕ) → getD t k 0 < 256) where
       let e : drop at t ≡ bytesOf 4 0 ++ drop (at + 4) t = number-first t bytes at (at + 4) refl h ∙ ap (λ v. bytesOf 4 v ++ drop (at + 4) t) z in
       put-is 4 t at 0 h ∙ ap (λ l. take at t ++ l) (sym e) ∙ take-append-drop at t
 
-  cleared-same : (n : ℕ) → ((i : ℕ) → i < n → zerosAt t i ≡ 0) → n * 16 ≤ length t → cleared n t ≡ t
+  cleared-same : (n : ℕ) → ((i : ℕ) → i < n → roadAt t i ≡ 0) → n * 16 ≤ length t → cleared n t ≡ t
   cleared-same zero z h = cleared-none t
   cleared-same (suc n) z h =
       rw (← add-one n)
@@ -72,22 +75,9 @@ module _ (nodes : ℕ) (t : List ℕ) (bytes : (k : ℕ) → getD t k 0 < 256) (
   whole-records : records t * 16 ≡ length t
   whole-records = omega (arith, good-size nodes t ok .2)
 
-  pub table-of-arcs : tableOf (arcsOf t) ≡ t
-  unfolding arcsOf cleared
-  table-of-arcs =
-      let same : tableOf (tab (records t) (arcAt t)) ++ drop (records t * 16) t ≡ t =
-      cleared-same t bytes (records t) (λ i w. all-good nodes t ok i w .zeros) (omega (arith, whole-records)) in
-      sym (append-nil (tableOf (tab (records t) (arcAt t))))
-      ∙ ap (λ l. tableOf (tab (records t) (arcAt t)) ++ l) (sym (drop-of-length-le t {i = records t * 16} (omega (arith, whole-records))))
-      ∙ same
-
   in-order : InOrder (arcsOf t)
   unfolding arcsOf prevOf
   in-order = tab-in-order (records t) (arcAt t) (λ i w. all-good nodes t ok (suc i) w .sorted)
-
-  -- ordered as a road file's arcs are, they make the table again
-  pub table-due : tableDue (arcsOf t) ≡ t
-  table-due = ap tableOf (ordered-same (arcsOf t) in-order) ∙ table-of-arcs
 
   tellable : (a : Arc) → List·Memᴰ a (arcsOf t) → Tellable a
   unfolding arcsOf
@@ -104,19 +94,70 @@ module _ (nodes : ℕ) (t : List ℕ) (bytes : (k : ℕ) → getD t k 0 < 256) (
       let size = good-size nodes t ok in
       written-reads nodes (arcsOf t) (omega (arith, size .1)) (omega (arith, size .3, arcs-length t)) tellable
 
+  module _ (none : NoRoads t) where
+    pub table-of-arcs : tableOf (arcsOf t) ≡ t
+    unfolding arcsOf cleared
+    table-of-arcs =
+        let same : tableOf (tab (records t) (arcAt t)) ++ drop (records t * 16) t ≡ t =
+        cleared-same t bytes (records t) none (omega (arith, whole-records)) in
+        sym (append-nil (tableOf (tab (records t) (arcAt t))))
+        ∙ ap (λ l. tableOf (tab (records t) (arcAt t)) ++ l) (sym (drop-of-length-le t {i = records t * 16} (omega (arith, whole-records))))
+        ∙ same
+
+    -- ordered as a road file's arcs are, they make the table again
+    pub table-due : tableDue (arcsOf t) ≡ t
+    table-due = ap tableOf (ordered-same (arcsOf t) in-order) ∙ table-of-arcs
+
 -- ---- the two calls
 
--- "Writing a table and reading it back gives the same table" (document 02, item 2): byte for byte, with its node count.
-pub write-then-read : (nodes : ℕ) (t text text′ area area′ : List ℕ) (w r : Made) → ((k : ℕ) → getD t k 0 < 256) → tableFault nodes t ≡ good
+-- "Writing a table and reading it back gives the same table" (document 02, item 2), which "holds for tables of zeros" (item 5): byte for byte, with its node count.
+pub write-then-read : (nodes : ℕ) (t text text′ area area′ : List ℕ) (w r : Made) → ((k : ℕ) → getD t k 0 < 256) → tableFault nodes t ≡ good → NoRoads t
     → length (textOf nodes t) ≤ length text → Written nodes t text w text′ → Read (take (bytesMade w) text′) area r area′ → length t ≤ length area
     → Made-of (length t) nodes (t ++ drop (length t) area) r area′
-write-then-read nodes t text text′ area area′ w r bytes ok fits written read room =
+write-then-read nodes t text text′ area area′ w r bytes ok none fits written read room =
     let x = textOf nodes t in
-    let m = written .done ok fits in
+    let m = written .done ok (none-first t none) fits in
     let front : take (bytesMade w) text′ ≡ x = ap₂ take (m .bytes-is) (m .area-is) ∙ take-at x (drop (length x) text) (length x) refl in
     let tabled : Tabled nodes (arcsOf t) area r area′ = subst (λ q. ReadAs q area r area′) (ap roadsIn front ∙ text-reads nodes t bytes ok) read in
-    subst (λ d. tableFault nodes d ≡ good → length d ≤ length area → Made-of (length d) nodes (d ++ drop (length d) area) r area′) (table-due nodes t bytes ok)
+    subst (λ d. tableFault nodes d ≡ good → length d ≤ length area → Made-of (length d) nodes (d ++ drop (length d) area) r area′) (table-due nodes t bytes ok none)
     (tabled .done) ok room
+
+-- what a write that is done had
+record Wrote (nodes : ℕ) (t text : List ℕ) : Type 0 where
+  fault : tableFault nodes t ≡ good
+  none : NoRoads t
+  fits : length (textOf nodes t) ≤ length text
+
+-- none of the refusals has outcome 0
+wrote : (nodes : ℕ) (t text text′ : List ℕ) (w : Made) → Written nodes t text w text′ → toldOf w ≡ plain found → Wrote nodes t text
+wrote nodes t text text′ w written e =
+    ⊎-elim
+    (λ z.
+    let g = told-good nodes t (eqb-true _ _ z) in
+    ⊎-elim
+    (λ n.
+    let none : firstRoad t ≡ records t = omega (arith, road-le t) in
+    record {
+      fault = g;
+      none = first-none t none;
+      fits =
+          ⊎-elim (λ h. h) (λ h. absurd (omega (arith, ap (λ x. x .outcome) (sym e ∙ written .small g none h .told-is))))
+          (order (length (textOf nodes t)) (length text));
+    })
+    (λ n. absurd (omega (arith, ap (λ x. x .outcome) (sym e ∙ written .on-roads g n .told-is))))
+    (order (records t) (firstRoad t)))
+    (λ z.
+    let f : tableFault nodes t ≢ good = λ g. eqb-false (tableFault nodes t .outcome) 0 z (ap (λ x. x .outcome) g) in
+    absurd (f (sym (written .faulty f .told-is) ∙ e)))
+    (cases (eqb (tableFault nodes t .outcome) 0))
+
+-- So what a write that is done has written gives its table back.
+pub written-then-read : (nodes : ℕ) (t text text′ area area′ : List ℕ) (w r : Made) → ((k : ℕ) → getD t k 0 < 256) → Written nodes t text w text′ → toldOf w ≡ plain found
+    → Read (take (bytesMade w) text′) area r area′ → length t ≤ length area
+    → Made-of (length t) nodes (t ++ drop (length t) area) r area′
+written-then-read nodes t text text′ area area′ w r bytes written e read room =
+    let h = wrote nodes t text text′ w written e in
+    write-then-read nodes t text text′ area area′ w r bytes (h .fault) (h .none) (h .fits) written read room
 
 -- ---- what a read made
 
@@ -132,10 +173,11 @@ unfolding tableOf
 table-bytes [] k = omega arith
 table-bytes (x ∷ xs) k = bytes-append (recordOf x) (tableOf xs) (record-bytes x) (table-bytes xs) k
 
--- a good table of bytes, as long as is told
+-- a good table of bytes and of zeros, as long as is told
 record Stands (nodes bytes : ℕ) (t : List ℕ) : Type 0 where
   each : (k : ℕ) → getD t k 0 < 256
   fault : tableFault nodes t ≡ good
+  none : NoRoads t
   long : length t ≡ bytes
 
 module _ (area area′ : List ℕ) (r : Made) where
@@ -150,6 +192,7 @@ module _ (area area′ : List ℕ) (r : Made) where
       record {
         each = subst (λ l. (k : ℕ) → getD l k 0 < 256) (sym front) (table-bytes (ordered arcs));
         fault = ap₂ tableFault (m .nodes-is) front ∙ g;
+        none = subst NoRoads (sym front) (due-no-roads arcs);
         long = ap length front ∙ sym (m .bytes-is);
       }
 
@@ -169,11 +212,13 @@ module _ (area area′ : List ℕ) (r : Made) where
       absurd (f (sym (d .faulty f .told-is) ∙ e)))
       (cases (eqb (tableFault n (tableDue arcs) .outcome) 0))
 
--- a write of a good table that is done had room for its text
-written-fits : (nodes : ℕ) (t text text′ : List ℕ) (w : Made) → tableFault nodes t ≡ good → Written nodes t text w text′ → toldOf w ≡ plain found
-    → length (textOf nodes t) ≤ length text
-written-fits nodes t text text′ w ok written e =
-    ⊎-elim (λ h. h) (λ h. absurd (omega (arith, ap (λ x. x .outcome) (sym e ∙ written .small ok h .told-is)))) (order (length (textOf nodes t)) (length text))
+-- A table that was read is one that can be written: no refusal but 10, where the buffer is too short for its text.
+pub read-then-written : (file text text′ area area′ : List ℕ) (r w : Made) → Read file area r area′ → toldOf r ≡ plain found
+    → Written (nodesMade r) (take (bytesMade r) area′) text w text′ → length (textOf (nodesMade r) (take (bytesMade r) area′)) ≤ length text
+    → toldOf w ≡ plain found
+read-then-written file text text′ area area′ r w read e written fits =
+    let g = read-stands area area′ r (roadsIn file) e read in
+    written .done (g .fault) (none-first _ (g .none)) fits .told-is
 
 -- A file that is read, written and read again gives the table that it gave at first.
 pub read-write-read : (file text text′ area area′ again again′ : List ℕ) (r w s : Made) → Read file area r area′ → toldOf r ≡ plain found
@@ -184,6 +229,5 @@ read-write-read file text text′ area area′ again again′ r w s read e writt
     let n = nodesMade r in
     let t = take (bytesMade r) area′ in
     let g = read-stands area area′ r (roadsIn file) e read in
-    let fits = written-fits n t text text′ w (g .fault) written f in
     subst (λ k. Made-of k n (t ++ drop k again) s again′) (g .long)
-    (write-then-read n t text text′ again again′ w s (g .each) (g .fault) fits written reread (omega (arith, g .long)))
+    (written-then-read n t text text′ again again′ w s (g .each) written f reread (omega (arith, g .long)))

@@ -1,3 +1,4 @@
 pub mod TextLaws
+pub mod RoadLaws
 pub mod WrittenLaws
 pub mod Figure

@@ -7,7 +7,7 @@ ghost use Rattle.net.specs.Limits.{mostArcs};
 ghost use Rattle.text_put.specs.Put.{Appended};
 ghost use Rattle.table.specs.Table.{records, arcAt, arcsOf};
 ghost use Rattle.road_write.specs.Text.{sizesText, lineText, arcText, ended, linesText};
-ghost use Rattle.road_write.specs.Written.{textOf, Written};
+ghost use Rattle.road_write.specs.Written.{textOf, firstRoad, Written};
 
 // How many bytes the first line takes.
 fn sizes_bytes(nodes: u32, arcs: usize) -> usize
@@ -108,8 +108,25 @@ fn put(table: &[u8], nodes: u32, text: &mut [u8]) -> usize
     lines(text, first, table)
 }
 
+// The lowest record with a road number, which no road file carries; where there is none, the number
+// of records.
+fn first_road(table: &[u8]) -> usize
+    ensures { λ r. ⌜ r ≡ firstRoad (now (table .entry)) ⌝ }
+{
+    let n = table.len() / table::arc::RECORD;
+    let mut i = 0;
+    while i < n {
+        if table::arc::road_of(table, i) != 0 {
+            return i;
+        }
+        i += 1;
+    }
+    n
+}
+
 // The road file of a table of so many nodes, at the front of `text`. A faulty table is refused as
-// everywhere, then a buffer shorter than the file, with 10; a refusal changes nothing.
+// everywhere, then one with a road number, with 27 and the lowest such record, then a buffer
+// shorter than the file, with 10; a refusal changes nothing.
 pub fn write(table: &[u8], nodes: u32, text: &mut [u8]) -> Made
     ensures { λ r. ⌜ Written nodes (now (table .entry)) (now (text .entry))
         r (now (text .exit)) ⌝ }
@@ -117,6 +134,10 @@ pub fn write(table: &[u8], nodes: u32, text: &mut [u8]) -> Made
     let told = table::fault::check(table, nodes);
     if told.outcome != outcome::FOUND {
         return Made::Refused(told.outcome, told.number);
+    }
+    let road = first_road(table);
+    if road < table.len() / table::arc::RECORD {
+        return Made::Refused(outcome::NUMBERED, road as u32);
     }
     if text.len() < needed(table, nodes) {
         return Made::Refused(outcome::BUFFERS, 0);

@@ -12,6 +12,7 @@ ghost use Rattle.net.specs.Limits.{mostLabels};
 ghost use Rattle.labels.specs.Field.{labelBytes, mostEarlier};
 ghost use Rattle.search_ask.specs.Ask.{Accepted, Searching, Among, queryFor, roomIn};
 ghost use Rattle.search_ask.specs.Earlier.{earlierOf};
+ghost use Rattle.search_driven.specs.Marks.{Filter};
 ghost use Rattle.round_turn.specs.Stage.{Ready, Going, Taken, Turned, Searched};
 
 // How many labels are taken up, the candidate last looked at, and the stage.
@@ -51,19 +52,21 @@ fn take_up(table: &[u8], ask: Ask, labels: &mut [u8], n: usize, c: Candidate, ow
     }
 }
 
-// One turn.
+// One turn. `marks` is the filter over the earlier answers.
 fn turn(
     table: &[u8],
     closed: &[u8],
     ask: Ask,
     area: &[u32],
     lens: &[u64],
+    marks: &[u64],
     labels: &mut [u8],
     x: State,
 ) -> State
     requires { ⌜ (Ready ask (now table) (now area) (now lens) (now labels)) × (x .stage ≡ 0)
         × (Going (queryFor ask (now table) (now closed) (now labels))
-        (earlierOf ask (now area) (now lens)) (now labels) x) ⌝ }
+        (earlierOf ask (now area) (now lens)) (now labels) x)
+        × (Filter (now table) (earlierOf ask (now area) (now lens)) (now marks)) ⌝ }
     ensures { λ y. ⌜ Turned (queryFor ask (now (table .entry)) (now (closed .entry))
         (now (labels .entry)))
         (earlierOf ask (now (area .entry)) (now (lens .entry)))
@@ -83,7 +86,7 @@ fn turn(
     let r = lens.len();
     let trial = Trial { r: r, n: n, c: c };
     let mut own = [0u64; labels::field::MOST_EARLIER];
-    search_trial::overlap::of_candidate(table, ask, area, labels, trial, &mut own);
+    search_trial::overlap::of_candidate(table, ask, area, marks, labels, trial, &mut own);
     let end = table::arc::to_of(table, c.arc);
     if !search_trial::passes(ask, lens, labels, n, end, &own[0..r]) {
         return State {
@@ -155,9 +158,11 @@ pub fn search(
         (earlierOf ask (now (area .entry)) (now (lens .entry)))
         (now (labels .entry)) (now (labels .exit)) y) ⌝ }
 {
+    let mut marks = [0u64; search_driven::marks::WORDS];
+    search_driven::marks::mark_earlier(table, ask, area, lens.len(), &mut marks);
     let mut x = begin(table, closed, ask, area, lens, labels);
     while x.stage == GOING {
-        x = turn(table, closed, ask, area, lens, labels, x);
+        x = turn(table, closed, ask, area, lens, &marks, labels, x);
     }
     x
 }

@@ -1,6 +1,4 @@
--- What an arc adds to the overlap with the route in a slot: the search goes word by word, no arc has the number that fills a slot's other words, and a
--- chain of one arc has that arc's length where the arc stands on the route. A label holds its overlaps, so a candidate's are those and what its arc adds; an
--- overlap is at most the chain's length, which a label keeps below its limit.
+-- A label holds its overlaps, so a candidate's are those and what its arc adds; an overlap is at most the chain's length, which a label keeps below its limit.
 use mathlib.Core.Path.{_≡_, refl, sym, ap, _∙_}
 use mathlib.Core.Bool.{Bool, true, false, not, _||_}
 use mathlib.Core.List.{List, [], _∷_, _++_}
@@ -31,44 +29,6 @@ use Rattle.labels.specs.Standing.{Standing, Holding}
 use Rattle.labels.proofs.OverlapLaws.{overlap-held}
 use Rattle.search_ask.specs.Earlier.{routeIn, earlierIn}
 
--- ---- a number among the words from i on
-
-module _ (a : ℕ) (l : List ℕ) (i : ℕ) where
-  pub has-done : length l ≤ i → has a (drop i l) ≡ false
-  unfolding has
-  has-done h = ap (has a) (drop-of-length-le l h)
-
-  pub has-step : i < length l → (getD l i 0 ≡ a → ⊥) → has a (drop i l) ≡ has a (drop (i + 1) l)
-  unfolding has
-  has-step h ne = rw (drop-cons l i 0 h, ne-eqb a (getD l i 0) (λ e. ne (sym e)), add-one i)
-
-  pub has-stop : i < length l → getD l i 0 ≡ a → has a (drop i l) ≡ true
-  unfolding has
-  has-stop h e = rw (drop-cons l i 0 h, eq-eqb a (getD l i 0) (sym e))
-
--- ---- one arc
-
-has-route : (a : ℕ) (l : List ℕ) → a ≢ noNumber → has a (routeIn l) ≡ has a l
-unfolding has routeIn keep consIf
-has-route a [] ne = refl
-has-route a (y ∷ ys) ne = go (eqb y noNumber) refl (has-route a ys ne)
-  where
-    go : (x : Bool) → eqb y noNumber ≡ x → has a (routeIn ys) ≡ has a ys → has a (consIf (not x) y (routeIn ys)) ≡ (eqb a y || has a ys)
-    go true e h = rw (ne-eqb a y (λ z. ne (z ∙ eqb-true y noNumber e))) h
-    go false e h = ap (λ x. eqb a y || x) h
-
-module _ (nodes : ℕ) (t l : List ℕ) (a : ℕ) (few : records t ≤ mostArcs) (below : a < records t) where
-  on-route : has a (routeIn l) ≡ has a l
-  on-route = has-route a l (λ e. omega arith)
-
-  pub shared-some : has a l ≡ true → overlap (netOf nodes t []) (a ∷ []) (routeIn l) ≡ lenAt t a
-  unfolding overlap lengthOf keep consIf
-  shared-some e = rw (on-route ∙ e, arc-is t a below) (omega arith)
-
-  pub shared-none : has a l ≡ false → overlap (netOf nodes t []) (a ∷ []) (routeIn l) ≡ 0
-  unfolding overlap lengthOf keep consIf
-  shared-none e = rw (on-route ∙ e)
-
 -- ---- a candidate's chain, of label i's and one arc more, with the j-th earlier route
 
 module _ (net : Net) {s : ℕ} {b : List ℕ} {n : ℕ} (st : Standing (net .arcs) s b n) (most : (a : ℕ) → arc (net .arcs) a .len ≤ mostLength) (i a : ℕ) (h : i < n) where
@@ -83,22 +43,6 @@ module _ (net : Net) {s : ℕ} {b : List ℕ} {n : ℕ} (st : Standing (net .arc
 
     pub candidate-limit : overlapAt b i j + overlap net (a ∷ []) (getD earlier j []) ≤ mostNodes * mostLength + mostLength
     candidate-limit = omega (arith, candidate-overlap, overlap-most net (chainAt b i ++ (a ∷ [])) (getD earlier j []), candidate-most)
-
--- ---- the slots
-
--- slot j of r ends in an area of m words
-pub slot-end : (w r m j : ℕ) → j < r → r * w ≤ m → j * w + w ≤ m
-slot-end w r m j h k = omega (arith, mul-le-mul-right {m = suc j} {n = r} w h)
-
-pub length-earlierIn : (w r : ℕ) (area : List ℕ) → length (earlierIn w r area) ≡ r
-unfolding earlierIn
-length-earlierIn w r area = length-map-upFrom (λ j. routeIn (slot w j area)) 0 r
-
-pub getD-earlierIn : (w r : ℕ) (area : List ℕ) (j : ℕ) → j < r → getD (earlierIn w r area) j [] ≡ routeIn (slot w j area)
-unfolding earlierIn
-getD-earlierIn w r area j h =
-    let e : 0 + j ≡ j = omega arith in
-    rw e at (getD-map-upFrom (λ j. routeIn (slot w j area)) 0 r j [] h)
 
 -- a chain ends where its last arc does
 pub end-is : (t : List ℕ) (s : ℕ) (p : List ℕ) (a : ℕ) → a < records t → toAt t a ≡ endOf (arcsOf t) s (p ++ (a ∷ []))

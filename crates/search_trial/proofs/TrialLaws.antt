@@ -29,7 +29,8 @@ use Rattle.search_ask.specs.Ask.{netFor, queryFor, width, chainOf}
 use Rattle.search_ask.specs.Earlier.{Earlier, earlierOf}
 use Rattle.search_ask.proofs.AskLaws.{lengths-most}
 use Rattle.search_trial.specs.Trial.{Trying, Measured, withinEach, noneGreater, coveredAt, passesAt}
-use Rattle.search_trial.proofs.OverlapLaws.{candidate-most, length-earlierIn, getD-earlierIn, end-is}
+use Rattle.search_ask.proofs.EarlierLaws.{length-earlierIn, getD-earlierIn}
+use Rattle.search_trial.proofs.OverlapLaws.{candidate-most, end-is}
 
 -- two numbers are equal, and a test passes
 pub covers : (x v : ℕ) (g : Bool) → x ≡ v → g ≡ true → (eqb x v && g) ≡ true

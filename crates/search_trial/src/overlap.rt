@@ -2,47 +2,46 @@
 use crate::Trial;
 use search_ask::Ask;
 ghost use mathlib.Core.Path.{_≡_};
+ghost use mathlib.Core.Bool.{false};
 ghost use mathlib.Core.List.{[], _∷_};
 ghost use Prim.Native.Nat.{_≤_, _<_};
 ghost use lib.ListN.{length, take};
-ghost use Rattle.lists.specs.Tests.{has};
+ghost use Rattle.net.specs.Net.{driven};
 ghost use Rattle.net.specs.Route.{overlap};
-ghost use Rattle.table.specs.Table.{records};
+ghost use Rattle.table.specs.Table.{records, roadsOf};
 ghost use Rattle.labels.specs.Rows.{overlapsOf};
 ghost use Rattle.search_ask.specs.Ask.{Accepted, netFor, width, chainOf};
 ghost use Rattle.search_ask.specs.Earlier.{routeIn, earlierIn};
+ghost use Rattle.search_driven.specs.Marks.{Filter};
 ghost use Rattle.search_trial.specs.Trial.{Trying};
 
-// Whether an arc stands on the slot.
-fn stands_on(slot: &[u32], arc: u32) -> bool
-    ensures { λ r. ⌜ r ≡ has arc (now (slot .entry)) ⌝ }
-{
-    let mut i = 0;
-    while i < slot.len() {
-        if slot[i] == arc {
-            return true;
-        }
-        i += 1;
-    }
-    false
-}
-
-// What an arc adds to the overlap with the route in the slot.
-pub fn shared(table: &[u8], ask: Ask, slot: &[u32], arc: usize) -> u64
-    requires { ⌜ (Accepted ask (now table)) × (arc < records (now table)) ⌝ }
+// What an arc adds to the overlap with the route in the slot; the slot is looked at only where the
+// route may drive the arc's road.
+fn share_of(table: &[u8], ask: Ask, slot: &[u32], arc: usize, may: bool) -> u64
+    requires { ⌜ (Accepted ask (now table)) × (arc < records (now table))
+        × (may ≡ false → driven (roadsOf (now table)) (routeIn (now slot)) arc ≡ false) ⌝ }
     ensures { λ r. ⌜ r ≡ overlap (netFor ask (now (table .entry)) []) (arc ∷ [])
         (routeIn (now (slot .entry))) ⌝ }
 {
-    if stands_on(slot, arc as u32) {
-        return table::arc::length_of(table, arc) as u64;
+    if !may {
+        return 0;
     }
-    0
+    search_driven::shared(table, ask, slot, arc)
 }
 
 // The overlaps of a candidate with the earlier answers in the first words of own: to each that its
-// label holds, its arc adds its share.
-pub fn of_candidate(table: &[u8], ask: Ask, area: &[u32], labels: &[u8], x: Trial, own: &mut [u64])
+// label holds, its arc adds its share. `marks` is the filter over the earlier answers.
+pub fn of_candidate(
+    table: &[u8],
+    ask: Ask,
+    area: &[u32],
+    marks: &[u64],
+    labels: &[u8],
+    x: Trial,
+    own: &mut [u64],
+)
     requires { ⌜ (Trying ask (now table) (now area) (now labels) x)
+        × (Filter (now table) (earlierIn (width ask) (x .r) (now area)) (now marks))
         × (x .r ≤ length (now own)) ⌝ }
     ensures { λ y. ⌜ (length (now (own .exit)) ≡ length (now (own .entry)))
         × (take (x .r) (now (own .exit)) ≡ overlapsOf (netFor ask (now (table .entry)) [])
@@ -53,9 +52,10 @@ pub fn of_candidate(table: &[u8], ask: Ask, area: &[u32], labels: &[u8], x: Tria
     let c = x.c;
     let label = c.label;
     let arc = c.arc;
+    let may = search_driven::marks::may_drive(table, marks, arc);
     let mut j = 0;
     while j < r {
-        let share = shared(table, ask, search_ask::slot(area, ask, j), arc);
+        let share = share_of(table, ask, search_ask::slot(area, ask, j), arc, may);
         own[j] = labels::field::overlap(labels, label, j) + share;
         j += 1;
     }

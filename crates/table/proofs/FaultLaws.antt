@@ -1,4 +1,4 @@
--- A record has fault 0 only if no test of `faultOf` fires, so each of the seven facts of `Good` is one test's failure. The scan `lowest` ends good
+-- A record has fault 0 only if no test of `faultOf` fires, so each of the six facts of `Good` is one test's failure. The scan `lowest` ends good
 -- only if every record it passes has fault 0; otherwise it stops at the first that has one. `lowest-done`, `lowest-step` and `lowest-stop` are the
 -- turns of a loop over the records that are left.
 use mathlib.Core.Path.{_≡_, refl, ap, _∙_}
@@ -16,18 +16,17 @@ use Rattle.lists.proofs.Cases.{cases, order}
 use Rattle.net.specs.Limits.{mostNodes, mostArcs, mostLength}
 use Rattle.outcome.specs.declared.Told.{Told}
 use Rattle.outcome.specs.Outcome.{plain, beside, size}
-use Rattle.table.specs.Table.{recordBytes, records, fromAt, toAt, lenAt, zerosAt}
+use Rattle.table.specs.Table.{recordBytes, records, fromAt, toAt, lenAt}
 use Rattle.table.specs.Fault.{faultOf, prevOf, faultAt, good, lowest, wrongSize, tableFault}
 
 -- ---- one record
 
-pub record Good (nodes prev from to len rest : ℕ) : Type 0 where
+pub record Good (nodes prev from to len : ℕ) : Type 0 where
   pub start : from < nodes
   pub end : to < nodes
   pub moves : from ≡ to → ⊥
   pub least : 1 ≤ len
   pub most : len ≤ mostLength
-  pub zeros : rest ≡ 0
   pub sorted : prev ≤ from
 
 -- a test with a fault's number did not fire
@@ -43,14 +42,13 @@ and-true : (x y : Bool) → (x && y) ≡ true → (x ≡ true) × (y ≡ true)
 and-true true y h = (refl, h)
 and-true false y h = let z : _≡_ {A = ℕ} 0 1 = cc in absurd (omega arith)
 
-pub fault-none : (nodes prev from to len rest : ℕ) → faultOf nodes prev from to len rest ≡ 0 → Good nodes prev from to len rest
+pub fault-none : (nodes prev from to len : ℕ) → faultOf nodes prev from to len ≡ 0 → Good nodes prev from to len
 unfolding faultOf
-fault-none nodes prev from to len rest h =
+fault-none nodes prev from to len h =
     let p2 = passed (leb nodes from || leb nodes to) 1 _ h in
     let p3 = passed (eqb from to) 2 _ (p2 .1) in
     let p4 = passed (not (leb 1 len && leb len mostLength)) 3 _ (p3 .1) in
-    let p5 = passed (not (eqb rest 0)) 4 _ (p4 .1) in
-    let p6 = passed (ltb from prev) 5 _ (p5 .1) in
+    let p6 = passed (ltb from prev) 5 _ (p4 .1) in
     let nodes-below = or-false (leb nodes from) (leb nodes to) (p2 .0) in
     let limits = and-true (leb 1 len) (leb len mostLength) (not-false _ (p4 .0)) in
     record {
@@ -59,7 +57,6 @@ fault-none nodes prev from to len rest h =
       moves = eqb-false from to (p3 .0);
       least = leb-true 1 len (limits .0);
       most = leb-true len mostLength (limits .1);
-      zeros = eqb-true rest 0 (not-false _ (p5 .0));
       sorted = ltb-false from prev (p6 .0);
     }
 
@@ -140,13 +137,13 @@ told-good nodes t h = go (wrongSize nodes t) h
     go false k = lowest-zero (records t) nodes t 0 k
 
 abbrev pub GoodAt : ℕ → List ℕ → ℕ → Type 0
-GoodAt nodes t i = Good nodes (prevOf t i) (fromAt t i) (toAt t i) (lenAt t i) (zerosAt t i)
+GoodAt nodes t i = Good nodes (prevOf t i) (fromAt t i) (toAt t i) (lenAt t i)
 
 module _ (nodes : ℕ) (t : List ℕ) (ok : tableFault nodes t ≡ good) where
   pub all-good : (i : ℕ) → i < records t → GoodAt nodes t i
   unfolding tableFault faultAt
   all-good i h =
-      fault-none nodes (prevOf t i) (fromAt t i) (toAt t i) (lenAt t i) (zerosAt t i)
+      fault-none nodes (prevOf t i) (fromAt t i) (toAt t i) (lenAt t i)
       (rw zero-add at (lowest-none (records t) nodes t 0 (sized (wrongSize nodes t) (lowest (records t) nodes t 0) ok .1) i h))
 
   pub good-size : (1 ≤ nodes) × (nodes ≤ mostNodes) × (length t % recordBytes ≡ 0) × (records t ≤ mostArcs)

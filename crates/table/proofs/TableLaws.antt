@@ -1,16 +1,17 @@
 -- The table of arcs, as it is put into zeros. Over a front of i records and then zeros, `putArc` makes the next 16 bytes the record of its arc: its last
 -- four are zeros that stood there. So arc by arc the front grows by a record, and in the end the bytes are the front, the table and the zeros that are left.
-use mathlib.Core.Path.{_≡_, refl, _∙_}
+use mathlib.Core.Path.{_≡_, refl, sym, ap, _∙_}
 use mathlib.Core.List.{List, [], _∷_, _++_, append-assoc}
-use Prim.Native.Nat.{ℕ, _+_, _-_, _*_, _≤_}
+use Prim.Native.Nat.{ℕ, zero, suc, _+_, _-_, _*_, _≤_, _<_}
 use native.Mathlib.Nat.{zero-add}
 use native.Mathlib.Omega.{arith}
 use lib.ListN.{length, take, replicate, length-append, replicate-append-replicate}
-use lib.Seq.{take-at}
-use Rattle.words.specs.Number.{put, bytesOf}
-use Rattle.words.proofs.BytesLaws.{length-bytesOf, put-bytes}
+use lib.Seq.{take-at, drop-at}
+use Rattle.words.specs.Number.{num, put, bytesOf}
+use Rattle.words.proofs.BytesLaws.{length-bytesOf, num-bytes, put-bytes}
+use Rattle.words.proofs.RecordLaws.{num-drop}
 use Rattle.net.specs.Net.{Arc}
-use Rattle.table.specs.Table.{recordBytes, recordOf, tableOf, putArc, putArcs}
+use Rattle.table.specs.Table.{recordBytes, records, roadAt, NoRoads, recordOf, tableOf, putArc, putArcs}
 
 pub length-recordOf : (x : Arc) → length (recordOf x) ≡ recordBytes
 unfolding recordOf
@@ -20,6 +21,22 @@ pub length-tableOf : (xs : List Arc) → length (tableOf xs) ≡ length xs * rec
 unfolding tableOf
 length-tableOf [] = refl
 length-tableOf (x ∷ xs) = simp length-append (omega (arith, length-recordOf x, length-tableOf xs))
+
+-- a record further on is one of the rest
+pub num-further : (x : Arc) (l : List ℕ) (i o : ℕ) → num 4 (recordOf x ++ l) (suc i * recordBytes + o) ≡ num 4 l (i * recordBytes + o)
+num-further x l i o =
+    let e : suc i * recordBytes + o ≡ 16 + (i * recordBytes + o) = omega arith in
+    rw e (sym (num-drop 4 16 (recordOf x ++ l) (i * recordBytes + o)) ∙ ap (λ m. num 4 m (i * recordBytes + o)) (drop-at (recordOf x) l 16 (length-recordOf x)))
+
+-- no arc of a table made of arcs has a road number
+no-road : (xs : List Arc) (i : ℕ) → i < length xs → roadAt (tableOf xs) i ≡ 0
+unfolding tableOf recordOf bytesOf
+no-road [] i h = absurd (omega arith)
+no-road (x ∷ xs) zero h = num-bytes 4 (bytesOf 4 (x .from) ++ (bytesOf 4 (x .to) ++ bytesOf 4 (x .len))) (tableOf xs) 12 0 refl (omega arith)
+no-road (x ∷ xs) (suc i) h = num-further x (tableOf xs) i 12 ∙ no-road xs i (omega arith)
+
+pub made-no-roads : (xs : List Arc) → NoRoads (tableOf xs)
+made-no-roads xs i h = no-road xs i (omega (arith, length-tableOf xs))
 
 -- three stores over four times four bytes z
 put-three : (p z r : List ℕ) (at u v w : ℕ) → length p ≡ at → length z ≡ 4

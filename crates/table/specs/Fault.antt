@@ -6,18 +6,17 @@ use lib.Dec.{ltb, leb, eqb}
 use lib.ListN.{length}
 use Rattle.net.specs.Limits.{mostNodes, mostArcs, mostLength}
 use Rattle.outcome.specs.declared.Told.{Told}
-use Rattle.outcome.specs.Outcome.{found, node, loop, lengthOut, zeros, order, size, plain, beside}
-use Rattle.table.specs.Table.{recordBytes, records, fromAt, toAt, lenAt, zerosAt}
+use Rattle.outcome.specs.Outcome.{found, node, loop, lengthOut, order, size, plain, beside}
+use Rattle.table.specs.Table.{recordBytes, records, fromAt, toAt, lenAt}
 
--- 2: "a record names a node not below the node count"; 3: "a record starts and ends at one node"; 4: "a length is outside its limits"; 5: "bytes 12 to 15 are
--- not all zero"; 6: "a record's start node is below the one before it", which is prev. "in it the lowest of 2 to 6"; 0: none of them.
-unfoldable pub faultOf : ℕ → ℕ → ℕ → ℕ → ℕ → ℕ → ℕ
-faultOf nodes prev from to len rest =
+-- 2: "a record names a node not below the node count"; 3: "a record starts and ends at one node"; 4: "a length is outside its limits"; 6: "a record's start node is
+-- below the one before it", which is prev. "in it the lowest of 2 to 6"; 0: none of them. "5 is never given any longer" (02.5).
+unfoldable pub faultOf : ℕ → ℕ → ℕ → ℕ → ℕ → ℕ
+faultOf nodes prev from to len =
     cond (leb nodes from || leb nodes to) node
     (cond (eqb from to) loop
     (cond (not (leb 1 len && leb len mostLength)) lengthOut
-    (cond (not (eqb rest 0)) zeros
-    (cond (ltb from prev) order 0))))
+    (cond (ltb from prev) order 0)))
 
 -- The start node of the record before number i; the first record is below none.
 unfoldable pub prevOf : List ℕ → ℕ → ℕ
@@ -26,7 +25,7 @@ prevOf t (suc i) = fromAt t i
 
 unfoldable pub faultAt : ℕ → List ℕ → ℕ → ℕ
 unfolding faultOf prevOf
-faultAt nodes t i = faultOf nodes (prevOf t i) (fromAt t i) (toAt t i) (lenAt t i) (zerosAt t i)
+faultAt nodes t i = faultOf nodes (prevOf t i) (fromAt t i) (toAt t i) (lenAt t i)
 
 abbrev pub good : Told
 good = plain found

@@ -1,12 +1,13 @@
 -- The road table of document 01: from bytes to arcs.
+use mathlib.Core.Path.{_≡_}
 use mathlib.Core.Bool.{Bool, cond}
 use mathlib.Core.List.{List, [], _∷_, _++_, flatMap}
-use Prim.Native.Nat.{ℕ, _+_, _*_, _/_}
+use Prim.Native.Nat.{ℕ, _+_, _*_, _/_, _<_}
 use lib.Dec.{ltb, eqb}
 use lib.ListN.{length, getD}
 use Rattle.lists.specs.Index.{tab}
 use Rattle.words.specs.Number.{num, put, bytesOf}
-use Rattle.net.specs.Net.{Arc, Net, plain, only}
+use Rattle.net.specs.Net.{Arc, Net, plain, streets, only}
 
 -- "Arc records are 16 bytes each, with no header"
 abbrev pub recordBytes : ℕ
@@ -15,7 +16,7 @@ recordBytes = 16
 abbrev pub records : List ℕ → ℕ
 records t = length t / recordBytes
 
--- "little-endian: start node (bytes 0 to 3), end node (4 to 7), length (8 to 11), and four bytes that are zero (12 to 15)"
+-- "little-endian: start node (bytes 0 to 3), end node (4 to 7), length (8 to 11)"
 abbrev pub fromAt : List ℕ → ℕ → ℕ
 fromAt t i = num 4 t (i * recordBytes + 0)
 
@@ -25,8 +26,9 @@ toAt t i = num 4 t (i * recordBytes + 4)
 abbrev pub lenAt : List ℕ → ℕ → ℕ
 lenAt t i = num 4 t (i * recordBytes + 8)
 
-abbrev pub zerosAt : List ℕ → ℕ → ℕ
-zerosAt t i = num 4 t (i * recordBytes + 12)
+-- "Bytes 12 to 15 become a road number." (02.5)
+abbrev pub roadAt : List ℕ → ℕ → ℕ
+roadAt t i = num 4 t (i * recordBytes + 12)
 
 abbrev pub arcAt : List ℕ → ℕ → Arc
 arcAt t i = record { from = fromAt t i; to = toAt t i; len = lenAt t i }
@@ -35,15 +37,22 @@ arcAt t i = record { from = fromAt t i; to = toAt t i; len = lenAt t i }
 unfoldable pub arcsOf : List ℕ → List Arc
 arcsOf t = tab (records t) (arcAt t)
 
+unfoldable pub roadsOf : List ℕ → List ℕ
+roadsOf t = tab (records t) (roadAt t)
+
+-- "A table of zeros"
+abbrev pub NoRoads : List ℕ → Type 0
+NoRoads t = (a : ℕ) → a < records t → roadAt t a ≡ 0
+
 -- "one byte for each arc, 0 open and 1 closed" (02.3). Past the bytes an arc is open: where none are lent none is closed.
 abbrev pub isOpen : List ℕ → ℕ → Bool
 isOpen closed a = eqb (getD closed a 0) 0
 
--- "The number of nodes is given beside the table." Open arcs may be used.
+-- "The number of nodes is given beside the table." Open arcs may be used, and arcs with one road number are one road.
 abbrev pub netOf : ℕ → List ℕ → List ℕ → Net
-netOf nodes t closed = only (isOpen closed) (plain nodes (arcsOf t))
+netOf nodes t closed = only (isOpen closed) (streets (roadsOf t) (plain nodes (arcsOf t)))
 
--- The record of an arc, and the table of arcs.
+-- The record of an arc, with no road number, and the table of arcs.
 unfoldable pub recordOf : Arc → List ℕ
 unfolding bytesOf
 recordOf x = bytesOf 4 (x .from) ++ (bytesOf 4 (x .to) ++ (bytesOf 4 (x .len) ++ bytesOf 4 0))

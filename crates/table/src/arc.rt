@@ -2,7 +2,7 @@
 ghost use mathlib.Core.Path.{_≡_};
 ghost use Prim.Native.Nat.{_+_, _*_, _≤_, _<_};
 ghost use lib.ListN.{length};
-ghost use Rattle.table.specs.Table.{records, fromAt, toAt, lenAt, zerosAt, recordBytes};
+ghost use Rattle.table.specs.Table.{records, fromAt, toAt, lenAt, roadAt, recordBytes};
 ghost use Rattle.table.specs.Table.{putArc, withRecord};
 
 pub const RECORD: usize = 16;
@@ -13,7 +13,7 @@ const TO: usize = 4;
 
 const LENGTH: usize = 8;
 
-const ZEROS: usize = 12;
+const ROAD: usize = 12;
 
 pub fn from_of(table: &[u8], arc: usize) -> u32
     requires { ⌜ arc < records (now table) ⌝ }
@@ -36,11 +36,12 @@ pub fn length_of(table: &[u8], arc: usize) -> u32
     words::number::read32(table, arc * RECORD + LENGTH)
 }
 
-pub fn zeros_of(table: &[u8], arc: usize) -> u32
+// The road number; 0 where the arc is a road of its own.
+pub fn road_of(table: &[u8], arc: usize) -> u32
     requires { ⌜ arc < records (now table) ⌝ }
-    ensures { λ r. ⌜ r ≡ zerosAt (now (table .entry)) arc ⌝ }
+    ensures { λ r. ⌜ r ≡ roadAt (now (table .entry)) arc ⌝ }
 {
-    words::number::read32(table, arc * RECORD + ZEROS)
+    words::number::read32(table, arc * RECORD + ROAD)
 }
 
 // An arc as record i. Bytes 12 to 15 of the record stay.

@@ -14,8 +14,8 @@ pub const MOST_ARCS: usize = 16384;
 pub const MOST_LENGTH: u32 = 1000000;
 
 // The lowest fault of a record, or 0.
-pub fn fault_of(nodes: u32, prev: u32, from: u32, to: u32, len: u32, zeros: u32) -> u32
-    ensures { λ r. ⌜ r ≡ faultOf nodes prev from to len zeros ⌝ }
+pub fn fault_of(nodes: u32, prev: u32, from: u32, to: u32, len: u32) -> u32
+    ensures { λ r. ⌜ r ≡ faultOf nodes prev from to len ⌝ }
 {
     if nodes <= from {
         return outcome::NODE;
@@ -31,9 +31,6 @@ pub fn fault_of(nodes: u32, prev: u32, from: u32, to: u32, len: u32, zeros: u32)
     }
     if MOST_LENGTH < len {
         return outcome::LENGTH;
-    }
-    if zeros != 0 {
-        return outcome::ZEROS;
     }
     if from < prev {
         return outcome::ORDER;
@@ -58,7 +55,6 @@ fn check_records(table: &[u8], nodes: u32) -> Told
             from,
             arc::to_of(table, i),
             arc::length_of(table, i),
-            arc::zeros_of(table, i),
         );
         if f != 0 {
             return Told {

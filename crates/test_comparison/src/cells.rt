@@ -34,12 +34,16 @@ pub(crate) const CLOSURE_BYTES: usize = 12;
 
 pub(crate) const ARCS: usize = 13;
 
+pub(crate) const MOST_ARCS: usize = 12;
+
 pub(crate) const ARC: usize = 5;
+
+pub(crate) const ROAD: usize = 3;
 
 pub(crate) const CLOSED: usize = 4;
 
 // Label bytes past the last whole label, and how many arcs are closed.
-pub(crate) const ODD_LABEL: usize = ARCS + 12 * ARC;
+pub(crate) const ODD_LABEL: usize = ARCS + MOST_ARCS * ARC;
 
 pub(crate) const CLOSED_ARCS: usize = ODD_LABEL + 1;
 

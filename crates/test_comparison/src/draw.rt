@@ -1,12 +1,15 @@
 // Queries and tables. A number of a case is settled by the number of the case and of the draw.
 use crate::cells;
 
-// The draws of a case: those of the query, and from FIRST on those of each arc.
+// The draws of a case: those of the query, from FIRST on those of each arc, and from PAIR on those
+// of two arcs of one road.
 const DRAWS: usize = 256;
 
 const FIRST: usize = 32;
 
 const OF_ARC: usize = 16;
+
+const PAIR: usize = FIRST + cells::MOST_ARCS * OF_ARC;
 
 // The manners in which closures are lent: none; all open; from 2 to 6, one arc closed in so many;
 // all arcs from one node closed; bytes of another number; one byte of another value.
@@ -17,6 +20,23 @@ const ONE_NODE: usize = 7;
 const NUMBER: usize = 8;
 
 const VALUE: usize = 9;
+
+// The manners in which arcs have road numbers: none; from 1 on those named here.
+const BOTH_SIDES: usize = 1;
+
+const TWO_ARCS: usize = 2;
+
+const FEW_ROADS: usize = 3;
+
+const ONE_ROAD: usize = 4;
+
+const GREATEST: usize = 5;
+
+const ONE_BYTE: usize = 6;
+
+const ARC_NUMBERS: usize = 7;
+
+const ROAD_MANNERS: usize = 8;
 
 fn next(x: usize) -> usize {
     let y = x % 2147483648;
@@ -183,10 +203,56 @@ fn length(case: usize, draw: usize) -> usize {
     test_cells::pick(once_in(case, test_cells::add(draw, 8), 200), wrong, right)
 }
 
-// Bytes 12 to 15.
-fn zeros(case: usize, draw: usize) -> usize {
-    let some = test_cells::add(below(case, test_cells::add(draw, 10), 256), 1);
-    test_cells::pick(once_in(case, test_cells::add(draw, 9), 300), some, 0)
+// One number for both directions between two nodes.
+fn street(from: usize, to: usize) -> usize {
+    let low = test_cells::pick(from < to, from, to);
+    let high = test_cells::pick(from < to, to, from);
+    test_cells::add(test_cells::place(high, 8, low), 1)
+}
+
+// 1, 2 ^ 8, 2 ^ 16 or 2 ^ 24: numbers that are told apart by all four bytes only.
+fn one_byte(x: usize) -> usize {
+    match x {
+        0 => 1,
+        1 => 256,
+        2 => 65536,
+        _ => 16777216,
+    }
+}
+
+// One of the three greatest numbers, or 0.
+fn greatest(x: usize) -> usize {
+    if x == 0 {
+        return 0;
+    }
+    if x < 4 { 4294967296 - x } else { 0 }
+}
+
+// One number for two arcs that are drawn, and 0 for the others.
+fn of_two(case: usize, i: usize) -> usize {
+    let arcs = records(case);
+    let drawn = (i == below(case, PAIR, arcs)) | (i == below(case, PAIR + 1, arcs));
+    test_cells::pick(drawn, test_cells::add(below(case, PAIR + 2, 100), 1), 0)
+}
+
+fn road_manner(case: usize) -> usize {
+    let x = below(case, 30, 12);
+    test_cells::pick(x < ROAD_MANNERS, x, 0)
+}
+
+// The road number of arc i, which leads from `from` to `to`.
+fn road(case: usize, i: usize, from: usize, to: usize) -> usize {
+    let draw = test_cells::place(i, OF_ARC, FIRST + 9);
+    match road_manner(case) {
+        BOTH_SIDES => street(from, to),
+        TWO_ARCS => of_two(case, i),
+        FEW_ROADS => below(case, draw, test_cells::add(below(case, 31, 3), 2)),
+        ONE_ROAD => test_cells::add(below(case, 31, 3), 1),
+        GREATEST => greatest(below(case, draw, 4)),
+        ONE_BYTE => one_byte(below(case, draw, 4)),
+        ARC_NUMBERS => below(case, draw, records(case)),
+        _ => 0,
+    }
 }
 
 // The closure byte of arc i, which starts at `from`.
@@ -207,7 +273,7 @@ fn of_arc(case: usize, i: usize, j: usize, from: usize) -> usize {
         0 => from,
         1 => end(case, draw, from),
         2 => length(case, draw),
-        3 => zeros(case, draw),
+        cells::ROAD => road(case, i, from, end(case, draw, from)),
         _ => closure(case, i, from),
     }
 }
@@ -237,4 +303,17 @@ pub(crate) fn case(number: usize) -> cells::Cells {
     }
     arcs(&mut case, number);
     case
+}
+
+// The case with the table of zeros in place of its road numbers.
+pub(crate) fn without_roads(case: cells::Cells) -> cells::Cells {
+    let mut plain = case;
+    for i in 0..cells::MOST_ARCS {
+        cells::put(
+            &mut plain,
+            test_cells::place(i, cells::ARC, cells::ARCS + cells::ROAD),
+            0,
+        );
+    }
+    plain
 }

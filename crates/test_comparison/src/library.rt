@@ -23,7 +23,7 @@ const JUNK: u8 = 85;
 
 const JUNK_WORD: u32 = 77;
 
-// Every number of a case is far below the limit.
+// What is asked, but for road numbers, is far below the limit.
 fn narrow(x: usize) -> u32 {
     if x < 4294967296 { x as u32 } else { 4294967295 }
 }

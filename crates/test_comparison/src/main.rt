@@ -25,7 +25,11 @@ const CLOSED: usize = 34;
 
 const BOTH: usize = 35;
 
-const UNCOUNTED: usize = 36;
+const NUMBERED: usize = 36;
+
+const TOLD_APART: usize = 37;
+
+const UNCOUNTED: usize = 38;
 
 // One more in cell i.
 fn add_one(tally: &mut cells::Cells, i: usize) {
@@ -49,6 +53,20 @@ fn count_case(tally: &mut cells::Cells, case: &cells::Cells, reached: bool, in_t
     add_one(tally, test_cells::pick(closed, CLOSED, UNCOUNTED));
     add_one(tally, test_cells::pick(both, BOTH, UNCOUNTED));
     add_one(tally, test_cells::pick(in_turn, IN_TURN, UNCOUNTED));
+}
+
+// Where rounds are reached with road numbers: whether an answer or a label count is another than
+// with zeros.
+fn count_roads(tally: &mut cells::Cells, case: cells::Cells, due: &cells::Cells) {
+    let plain = draw::without_roads(case);
+    if !cells::same(&case, &plain) & cells::reached(due) {
+        let other = lister::answer(&plain);
+        add_one(tally, NUMBERED);
+        add_one(
+            tally,
+            test_cells::pick(cells::same(due, &other), UNCOUNTED, TOLD_APART),
+        );
+    }
 }
 
 // Does the library give what is due, with closures lent or without? The first that differs is
@@ -79,6 +97,7 @@ fn one(tally: &mut cells::Cells, number: usize) {
     let agreed = agree(&case, &due, cells::get(tally, DIFFERENT) == 0);
     count(tally, &due, agreed);
     count_case(tally, &case, cells::reached(&due), draw::in_turn(number));
+    count_roads(tally, case, &due);
 }
 
 fn line(name: &[u8], n: usize, v: usize) {
@@ -118,6 +137,13 @@ fn show(tally: &cells::Cells) {
         b"all arcs open, asked with and without closures, of ",
         CASES,
         cells::get(tally, BOTH),
+    );
+    let numbered = cells::get(tally, NUMBERED);
+    line(b"rounds reached with road numbers, of ", CASES, numbered);
+    line(
+        b"an answer or a label count other than with zeros, of ",
+        numbered,
+        cells::get(tally, TOLD_APART),
     );
 }
 

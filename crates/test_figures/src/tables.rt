@@ -97,38 +97,38 @@ fn fields() {
     byte(b"end node, last byte", 7, 1);
     byte(b"length, first byte", 8, 65);
     byte(b"length, last byte", 11, 1);
-    byte(b"zeros, first byte", 12, 1);
-    byte(b"zeros, last byte", 15, 128);
+    byte(b"road number, first byte", 12, 1);
+    byte(b"road number, last byte", 15, 128);
 }
 
-// A good record and then one that has two faults.
-fn both(name: &[u8], from: u32, to: u32, len: u32, zero: u8) {
+// A good record and then one with faults, and with a road number below 256.
+fn both(name: &[u8], from: u32, to: u32, len: u32, road: u8) {
     let mut t = [0u8; 32];
     table::arc::put(&mut t, 0, 1, 2, 1);
     table::arc::put(&mut t, 1, from, to, len);
-    test_cells::put_byte(&mut t, 28, zero);
+    test_cells::put_byte(&mut t, 28, road);
     outcome(name, &t, 4);
 }
 
 fn two_faults() {
     both(b"2 and 3 in one record", 4, 4, 1, 0);
     both(b"3 and 4 in one record", 1, 1, 0, 0);
-    both(b"4 and 5 in one record", 1, 2, 0, 1);
-    both(b"5 and 6 in one record", 0, 2, 1, 1);
+    both(b"4 and 6 in a record with a road number", 0, 2, 0, 1);
+    both(b"6 in a record with a road number", 0, 2, 1, 1);
     both(b"2 and 6 in one record", 0, 4, 1, 0);
 }
 
-// A record that is good but for byte 12, and then another.
-fn two(name: &[u8], zero: u8, from: u32, to: u32) {
+// A good record with a road number below 256, and then another.
+fn two(name: &[u8], road: u8, from: u32, to: u32) {
     let mut t = [0u8; 32];
     table::arc::put(&mut t, 0, 1, 2, 1);
-    test_cells::put_byte(&mut t, 12, zero);
+    test_cells::put_byte(&mut t, 12, road);
     table::arc::put(&mut t, 1, from, to, 1);
     outcome(name, &t, 4);
 }
 
 fn orders() {
-    two(b"5 in record 0, 2 in record 1", 1, 1, 4);
+    two(b"a road number in record 0, 2 in record 1", 1, 1, 4);
     two(b"2 in record 1", 0, 1, 4);
     two(b"3 in record 1", 0, 1, 1);
     two(b"equal start nodes", 0, 1, 3);

@@ -10,14 +10,13 @@ pub(crate) fn end(sheet: &sheet::Sheet, row: usize) -> usize {
     test_cells::pick(last == 0, sheet::get(sheet, sheet::START), to)
 }
 
-// Does the row stand on the arc, or on one that leads to the node?
-pub(crate) fn meets(sheet: &sheet::Sheet, row: usize, arc: usize, node: usize) -> bool {
+// Does the row stand on an arc that leads to the node?
+fn enters(sheet: &sheet::Sheet, row: usize, node: usize) -> bool {
     let count = sheet::of_row(sheet, row, sheet::SIZE) % sheet::PAIR;
     let mut at = row;
     for i in 0..count {
         let link = sheet::of_row(sheet, at, sheet::LINK);
-        let last = link % sheet::PAIR;
-        if (last == arc) | (sheet::of_arc(sheet, last, sheet::TO) == node) {
+        if sheet::of_arc(sheet, link % sheet::PAIR, sheet::TO) == node {
             return true;
         }
         at = link / sheet::PAIR;
@@ -32,7 +31,7 @@ fn grown(sheet: &sheet::Sheet, row: usize, arc: usize) -> usize {
     let from = sheet::of_arc(sheet, arc, sheet::FROM);
     let open = sheet::of_arc(sheet, arc, sheet::CLOSED) == 0;
     let leaves = (arc <= sheet::get(sheet, sheet::ARC_COUNT)) & (from == end(sheet, row));
-    let visited = (to == sheet::get(sheet, sheet::START)) | meets(sheet, row, 0, to);
+    let visited = (to == sheet::get(sheet, sheet::START)) | enters(sheet, row, to);
     let long = sheet::of_arc(sheet, arc, sheet::LONG);
     let size = sheet::of_row(sheet, row, sheet::SIZE);
     let sum = test_cells::add(size, test_cells::place(long, sheet::PAIR, 1));

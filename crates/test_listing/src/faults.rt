@@ -28,7 +28,6 @@ fn record_fault(sheet: &sheet::Sheet, at: usize) -> usize {
     let long = sheet::of_arc(sheet, at, sheet::LONG);
     let before = sheet::of_arc(sheet, test_cells::less_one(at), sheet::FROM);
     let mut fault = test_cells::pick((from < before) & (at > 1), 6, 0);
-    fault = test_cells::pick(sheet::of_arc(sheet, at, sheet::ZERO) > 0, 5, fault);
     fault = test_cells::pick((long < 1) | (long > MOST_LENGTH), 4, fault);
     fault = test_cells::pick(from == to, 3, fault);
     test_cells::pick((from >= nodes) | (to >= nodes), 2, fault)

@@ -45,7 +45,7 @@ fn read<'a>(text: &[u8], sheet: &'a mut sheet::Sheet) -> &'a mut sheet::Sheet {
 
 // The call on numbers. `asked`: nodes, arcs, s, t, k, a, b, the room, words of the area, summaries,
 // table bytes past the last whole record, whether closures are lent (0 for not) and how many bytes
-// of them; then from, to, length, bytes 12 to 15 and the closure byte of each arc. Where the rounds
+// of them; then from, to, length, road number and the closure byte of each arc. Where the rounds
 // are reached `slots` begins with the k slots, and `sums` with length, arcs and label count of each
 // of the k rounds.
 pub fn answer(asked: &[usize], slots: &mut [usize], sums: &mut [usize]) -> Told

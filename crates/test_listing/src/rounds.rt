@@ -3,9 +3,6 @@ use crate::chains;
 use crate::faults;
 use crate::sheet;
 
-// Past every node.
-const NOWHERE: usize = 4294967295;
-
 // Rule 3: does the row precede the other? Of equal length, the list has them in order.
 fn precedes(sheet: &sheet::Sheet, row: usize, other: usize) -> bool {
     let here = sheet::of_row(sheet, row, sheet::SIZE) / sheet::PAIR;
@@ -13,7 +10,28 @@ fn precedes(sheet: &sheet::Sheet, row: usize, other: usize) -> bool {
     (here < there) | ((here == there) & (row < other))
 }
 
-// Rule 4: the overlap of the row with the other.
+// Are the two arcs of one road: the same arc, or two with one road number other than zero?
+fn one_road(sheet: &sheet::Sheet, arc: usize, other: usize) -> bool {
+    let road = sheet::of_arc(sheet, arc, sheet::ROAD);
+    let same = road == sheet::of_arc(sheet, other, sheet::ROAD);
+    (arc == other) | (same & (road > 0))
+}
+
+// Does the row drive the arc's road?
+fn drives(sheet: &sheet::Sheet, row: usize, arc: usize) -> bool {
+    let count = sheet::of_row(sheet, row, sheet::SIZE) % sheet::PAIR;
+    let mut at = row;
+    for i in 0..count {
+        let link = sheet::of_row(sheet, at, sheet::LINK);
+        if one_road(sheet, arc, link % sheet::PAIR) {
+            return true;
+        }
+        at = link / sheet::PAIR;
+    }
+    false
+}
+
+// The overlap of the row with the other: the length of its arcs whose road the other drives.
 fn overlap(sheet: &sheet::Sheet, row: usize, other: usize) -> usize {
     let count = sheet::of_row(sheet, row, sheet::SIZE) % sheet::PAIR;
     let mut at = row;
@@ -21,9 +39,9 @@ fn overlap(sheet: &sheet::Sheet, row: usize, other: usize) -> usize {
     for i in 0..count {
         let link = sheet::of_row(sheet, at, sheet::LINK);
         let arc = link % sheet::PAIR;
-        let both = chains::meets(sheet, other, arc, NOWHERE);
+        let driven = drives(sheet, other, arc);
         let long = sheet::of_arc(sheet, arc, sheet::LONG);
-        sum = test_cells::add(sum, test_cells::pick(both, long, 0));
+        sum = test_cells::add(sum, test_cells::pick(driven, long, 0));
         at = link / sheet::PAIR;
     }
     sum

@@ -41,8 +41,8 @@ pub(crate) const CLOSURES: usize = 13;
 
 pub(crate) const CLOSURE_BYTES: usize = 14;
 
-// The arcs: start node, end node, length, what should be zero, and the closure byte, 0 where none
-// is lent. Their first cell is a multiple of ARC, which text.rt leans on.
+// The arcs: start node, end node, length, road number, and the closure byte, 0 where none is
+// lent. Their first cell is a multiple of ARC, which text.rt leans on.
 pub(crate) const ARCS: usize = CLOSURE_BYTES + 1;
 
 pub(crate) const ARC: usize = 5;
@@ -53,7 +53,7 @@ pub(crate) const TO: usize = FROM + 1;
 
 pub(crate) const LONG: usize = FROM + 2;
 
-pub(crate) const ZERO: usize = FROM + 3;
+pub(crate) const ROAD: usize = FROM + 3;
 
 pub(crate) const CLOSED: usize = FROM + 4;
 

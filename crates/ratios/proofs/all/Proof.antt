@@ -12,7 +12,7 @@ use Rattle.net.specs.Net.{Net}
 use Rattle.net.specs.Limits.{mostRoutes}
 use Rattle.search_ask.specs.Ask.{netFor, width}
 use Rattle.search_ask.specs.Earlier.{earlierIn}
-use Rattle.search_trial.proofs.OverlapLaws.{length-earlierIn}
+use Rattle.search_ask.proofs.EarlierLaws.{length-earlierIn}
 use Rattle.ratios.specs.declared.Ratios.{Ratios}
 use Rattle.ratios.specs.Ratios.{ratiosOf, ratiosFor}
 use Rattle.ratios.specs.Rows.{setAt}

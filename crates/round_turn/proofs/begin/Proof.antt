@@ -10,7 +10,7 @@ use Rattle.labels.proofs.StoreLaws.{emptyRow, row-put}
 use Rattle.search_ask.specs.Ask.{netFor, queryFor, width}
 use Rattle.search_ask.specs.Earlier.{earlierOf}
 use Rattle.search_ask.proofs.AskLaws.{accepted-valid}
-use Rattle.search_trial.proofs.OverlapLaws.{length-earlierIn}
+use Rattle.search_ask.proofs.EarlierLaws.{length-earlierIn}
 use Rattle.round_turn.proofs.TurnLaws.{begun-refused, begun-first, zeros}
 use Rattle.round_turn.proofs.begin.Statement.{statement}
 use Rattle.round_turn.proofs.begin.Tie as tie

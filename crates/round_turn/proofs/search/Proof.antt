@@ -1,4 +1,4 @@
--- The loop's invariant: since `begin` the bytes have kept their length and are those of the chains taken up, and the state is at its stage.
+-- The filter is made first. The loop's invariant: since `begin` the bytes have kept their length and are those of the chains taken up, and the state is at its stage.
 -- A turn keeps it, and the number `leftIn` falls. Where the stage is no longer 0 the loop ends, and what `begin` did and the turns since
 -- then add up to the whole search.
 use native.Mathlib.Omega.{arith}
@@ -13,19 +13,24 @@ use Rattle.round_turn.proofs.search.Statement.{statement}
 use Rattle.round_turn.proofs.search.Tie as tie
 
 abbrev Inv-loop : tie.InvT-loop
-Inv-loop table closed ask area lens labels₀ x₀ labels x = Since (queryFor ask table closed labels₀) (earlierOf ask area lens) labels₀ x₀ labels x
+Inv-loop table closed ask area lens labels₀ marks x₀ labels x = Since (queryFor ask table closed labels₀) (earlierOf ask area lens) labels₀ x₀ labels x
 
 abbrev μ-loop : tie.MeasureT-loop
-μ-loop table closed ask area lens labels₀ x₀ labels x = leftIn (queryFor ask table closed labels₀) labels x
+μ-loop table closed ask area lens labels₀ marks x₀ labels x = leftIn (queryFor ask table closed labels₀) labels x
 
 abbrev start : tie.After-begin Inv-loop μ-loop → tie.Start Inv-loop μ-loop
-start b = b .before .before .before .before .before .before .before
+start b = b .before .before .before .before .before .before .before .before .before .before
 
 abbrev earlier : tie.After-begin Inv-loop μ-loop → List (List ℕ)
 earlier b = earlierOf (start b .args .ask) (start b .args .area .now) (start b .args .lens .now)
 
 abbrev begun : tie.At-loop Inv-loop μ-loop → tie.After-begin Inv-loop μ-loop
 begun m = m .before .before .before
+
+mark-earlier-requires : tie.Need-mark-earlier-requires Inv-loop μ-loop
+mark-earlier-requires c κs =
+    let s = c .before .before .before .before .before .before in
+    (s .pre .accepted, s .pre .earlier .slots, search needs)
 
 loop-holds : tie.Need-loop-holds Inv-loop μ-loop
 loop-holds c =
@@ -35,25 +40,26 @@ loop-holds c =
 
 turn-requires : tie.Need-turn-requires Inv-loop μ-loop
 turn-requires c κs =
-    let m = c .before .before .before in
+    let m = c .before .before .before .before in
     let b = begun m in
     let s = start b in (
       record { accepted = s .pre .accepted; earlier = s .pre .earlier; few = s .pre .few; room = omega (arith, s .pre .room, m .loop .inv .long, b .begin .ensures .long) },
-      c .before .if1 .taken,
-      since-going (s .args .ask) (s .args .table .now) (s .args .closed .now) (earlier b) _ (b .begin .result) (m .loop .labels) (m .loop .x) (m .loop .inv) (c .before .if1 .taken),
+      c .before .before .if1 .taken,
+      since-going (s .args .ask) (s .args .table .now) (s .args .closed .now) (earlier b) _ (b .begin .result) (m .loop .labels) (m .loop .x) (m .loop .inv) (c .before .before .if1 .taken),
+      b .before .before .before .mark-earlier .ensures,
     )
 
 loop-less : tie.Need-loop-less Inv-loop μ-loop
 loop-less c =
     let t = c .before .before in
-    let m = t .before .before .before .before in
+    let m = t .before .before .before .before .before in
     let b = begun m in
     since-less (start b .args .ask) (start b .args .table .now) (start b .args .closed .now) (earlier b) _ (b .begin .result) (m .loop .labels) (m .loop .x) (m .loop .inv) _ (t .turn .result) (t .turn .ensures)
 
 loop-again : tie.Need-loop-again Inv-loop μ-loop
 loop-again c =
     let t = c .before .before in
-    let m = t .before .before .before .before in
+    let m = t .before .before .before .before .before in
     let b = begun m in
     since-turned (start b .args .ask) (start b .args .table .now) (start b .args .closed .now) (earlier b) _ (b .begin .result) (m .loop .labels) (m .loop .x) (m .loop .inv) _ (t .turn .result) (t .turn .ensures)
 
@@ -70,8 +76,11 @@ search-spec =
     (tie.spec
     Inv-loop
     μ-loop
+    (λ c. search needs)
+    mark-earlier-requires
     (λ c κs. search needs)
     loop-holds
+    (λ c. search needs)
     turn-requires
     loop-less
     loop-again

@@ -29,7 +29,7 @@ use Rattle.round_turn.proofs.turn.Statement.{statement}
 use Rattle.round_turn.proofs.turn.Tie as tie
 
 abbrev start : tie.After-next → tie.Start
-start a = a .before .before .before .before .before .before .before .before
+start a = a .before .before .before .before .before .before .before .before .before
 
 abbrev query : tie.After-next → Query
 query a = queryFor (start a .args .ask) (start a .args .table .now) (start a .args .closed .now) (start a .args .labels .now)
@@ -72,11 +72,11 @@ real c = c .before .before .before
 
 -- as the call left them
 abbrev own : tie.After-of-candidate → List ℕ
-own c = take (length (start (looked (real c)) .args .lens .now) - 0) (c .of-candidate .last .1 .1 .1 .1 .1 .0)
+own c = take (length (start (looked (real c)) .args .lens .now) - 0) (c .of-candidate .last .1 .1 .1 .1 .1 .1 .0)
 
 own-is : (c : tie.After-of-candidate) → let a = looked (real c) in let s = start a in
     own c ≡ overlapsOf (netFor (s .args .ask) (s .args .table .now) []) (earlier a) (chainOf (s .args .labels .now) (a .next .result))
-own-is c = ap (λ k. take k (c .of-candidate .last .1 .1 .1 .1 .1 .0)) (sub-zero (length (start (looked (real c)) .args .lens .now))) ∙ c .of-candidate .ensures .1
+own-is c = ap (λ k. take k (c .of-candidate .last .1 .1 .1 .1 .1 .1 .0)) (sub-zero (length (start (looked (real c)) .args .lens .now))) ∙ c .of-candidate .ensures .1
 
 abbrev tried : tie.After-passes → tie.After-of-candidate
 tried p = p .before .before .before .before .before .before
@@ -120,7 +120,9 @@ returns c =
     turned-none (query a) (earlier a) (valid a) (s .args .labels .now) (s .args .x) (s .pre .2) (s .pre .1) (a .next .result) (a .next .ensures .points) (a .next .ensures .is) (c .if1 .taken)
 
 of-candidate-requires : tie.Need-of-candidate-requires
-of-candidate-requires c κs = (trying (c .before .before), start (looked (c .before .before)) .pre .0 .few)
+of-candidate-requires c κs =
+    let s = start (looked (c .before .before)) in
+    (trying (c .before .before), s .pre .3, s .pre .0 .few)
 
 passes-requires : tie.Need-passes-requires
 passes-requires c κs =
@@ -189,7 +191,7 @@ turn-spec =
     returns-3
     (λ c. search needs)
     (λ c. search needs)
-    (λ c. search needs)
+    (λ c. omega (arith, start (looked (real (found (c .before .before)))) .pre .0 .few))
     take-up-requires
     (λ c. search needs)
     returns-4)

@@ -20,7 +20,7 @@ abbrev μ-loop : tie.MeasureT-loop
 
 -- the turn, and the start
 abbrev at : tie.After-fault-of Inv-loop μ-loop → tie.At-loop Inv-loop μ-loop
-at c = c .before .before .before .before .before .before
+at c = c .before .before .before .before .before
 
 abbrev start : tie.After-fault-of Inv-loop μ-loop → tie.Start Inv-loop μ-loop
 start c = at c .before .before
@@ -56,7 +56,6 @@ check-records-spec =
     Inv-loop
     μ-loop
     (λ c. (search needs, refl, rw sub-zero))
-    (λ c κs. search needs)
     (λ c κs. search needs)
     (λ c κs. search needs)
     (λ c κs. search needs)

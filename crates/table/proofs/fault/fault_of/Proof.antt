@@ -19,5 +19,4 @@ fault-of-spec =
     (λ c. search tests)
     (λ c. search tests)
     (λ c. search tests)
-    (λ c. search tests)
     (λ c. search tests))

@@ -1,17 +1,19 @@
 -- The words are looked at in order. The loop's invariant: whether the arc stands among the words from i on tells whether it stands on the slot; past the last
 -- word it stands among none.
-use mathlib.Core.Path.{_≡_, refl}
+use mathlib.Core.Path.{_≡_, refl, sym, _∙_}
 use Prim.Native.Nat.{_≤_, _-_}
 use native.Mathlib.Omega.{arith}
+use lib.Dec.{eqb}
 use lib.ListN.{length, drop}
 use borrow.Author.Needs.{needs}
-use Rattle.lists.specs.Tests.{has}
-use Rattle.search_trial.proofs.OverlapLaws.{has-done, has-step, has-stop}
-use Rattle.search_trial.proofs.overlap.stands_on.Statement.{statement}
-use Rattle.search_trial.proofs.overlap.stands_on.Tie as tie
+use borrow.Author.Tests.{eq-eqb, ne-eqb}
+use Rattle.lists.specs.Tests.{any}
+use Rattle.search_driven.proofs.DrivenLaws.{any-done, any-step, any-stop}
+use Rattle.search_driven.proofs.stands_on.Statement.{statement}
+use Rattle.search_driven.proofs.stands_on.Tie as tie
 
 abbrev Inv-loop : tie.InvT-loop
-Inv-loop slot a i₀ i = (i ≤ length slot) × (has a (drop i slot) ≡ has a slot)
+Inv-loop slot a i₀ i = (i ≤ length slot) × (any (eqb a) (drop i slot) ≡ any (eqb a) slot)
 
 abbrev μ-loop : tie.MeasureT-loop
 μ-loop slot a i₀ i = length slot - i
@@ -19,17 +21,17 @@ abbrev μ-loop : tie.MeasureT-loop
 returns : tie.Need-returns Inv-loop μ-loop
 returns c =
     let a = c .before .before .before in
-    cc (has-stop (a .before .args .arc) (a .before .args .slot .now) (a .loop .i) (omega arith) (c .if1 .taken))
+    cc (any-stop (eqb (a .before .args .arc)) (a .before .args .slot .now) (a .loop .i) (omega arith) (eq-eqb _ _ (sym (c .if1 .taken))))
 
 loop-again : tie.Need-loop-again Inv-loop μ-loop
 loop-again c =
     let a = c .before .before .before in
-    (search needs, cc (has-step (a .before .args .arc) (a .before .args .slot .now) (a .loop .i) (omega arith) (c .if1 .left)))
+    (search needs, cc (any-step (eqb (a .before .args .arc)) (a .before .args .slot .now) (a .loop .i) (omega arith) (ne-eqb _ _ (λ e. c .if1 .left (sym e)))))
 
 returns-2 : tie.Need-returns-2 Inv-loop μ-loop
 returns-2 c =
     let a = c .before in
-    cc (has-done (a .before .args .arc) (a .before .args .slot .now) (a .loop .i) (omega arith))
+    cc (any-done (eqb (a .before .args .arc)) (a .before .args .slot .now) (a .loop .i) (omega arith))
 
 pub stands-on-spec : {M : Type 1} → statement M
 stands-on-spec =
