@@ -1,4 +1,4 @@
-/* The library against the baseline: times by size, k and threshold; with road numbers beside zeros; growth of time with labels; times of a road file; the stack that each
+/* The library against the baseline: times by size, k and threshold; with road numbers beside zeros; growth of time with labels; times of a road file and of files of accepted plans; the stack that each
  * call needs.
  *
  *     bench [--quick]     --quick: only the rows of the smallest network, with three legs
@@ -478,6 +478,153 @@ static void table_of_roads(void)
               memcmp(table_again, net.table, net.bytes) == 0;
 }
 
+#define PLAN_RECORDS 10000 /* of the larger file of accepted plans */
+#define PIECE 1000         /* of the smaller */
+#define PLAN_WIDTH 20      /* words of a slot */
+#define PLAN_ROUTES 2      /* of a plan */
+
+static uint8_t plan_file[PLAN_RECORDS * OJEONBUT_PLAN_RECORD], plan_copy[sizeof plan_file];
+static uint32_t plan_slots[PLAN_ROUTES * PLAN_WIDTH], plan_again[PLAN_ROUTES * PLAN_WIDTH];
+static size_t plan_bytes;
+static uint32_t plan_number;
+static bool plans_right;
+
+/* The routes of the i-th plan when it is stored for the first or the second time: of 1 to 20 arcs. */
+static void make_plan(uint32_t i, uint32_t time)
+{
+    for (uint32_t r = 0; r < PLAN_ROUTES; r++)
+        for (uint32_t j = 0; j < PLAN_WIDTH; j++)
+            plan_slots[r * PLAN_WIDTH + j] = j <= (7 * i + 5 * r + 3 * time) % PLAN_WIDTH ? (i + 10 * r + j) % OJEONBUT_ARCS : OJEONBUT_NONE;
+}
+
+static ojeonbut_reply store_plan(uint8_t *file, size_t bytes, uint32_t number)
+{
+    return ojeonbut_plan_store(file, bytes, number, plan_slots, PLAN_ROUTES * PLAN_WIDTH, PLAN_ROUTES, PLAN_WIDTH);
+}
+
+/* A full file, by stores with rising plan numbers. */
+static void make_rising(size_t records)
+{
+    uint32_t i = 0;
+    plan_bytes = records * OJEONBUT_PLAN_RECORD;
+    memset(plan_file, 0, plan_bytes);
+    do
+        make_plan(i++, 0);
+    while (store_plan(plan_file, plan_bytes, i).outcome == OJEONBUT_FOUND);
+    plan_number = i / 2;
+    make_plan(plan_number - 1, 0);
+}
+
+/* Pieces in which every other plan was withdrawn and stored again with other routes, so that their parts lie apart. The plans of piece p are those whose number is p + 1 and a
+ * multiple of the pieces more. */
+static void make_scattered(size_t records)
+{
+    uint32_t pieces = (uint32_t)(records / PIECE), count = 0;
+    plan_bytes = records * OJEONBUT_PLAN_RECORD;
+    memset(plan_file, 0, plan_bytes);
+    for (uint32_t p = 0; p < pieces; p++) {
+        uint8_t *piece = plan_file + p * PIECE * OJEONBUT_PLAN_RECORD;
+        const size_t bytes = PIECE * OJEONBUT_PLAN_RECORD;
+        for (count = 0;; count++) {
+            make_plan(count, 0);
+            if (store_plan(piece, bytes, p + 1 + count * pieces).outcome != OJEONBUT_FOUND)
+                break;
+        }
+        for (uint32_t i = 0; i < count; i += 2)
+            ojeonbut_plan_withdraw(piece, bytes, p + 1 + i * pieces);
+        for (uint32_t i = count; i-- > 0;)
+            if (i % 2 == 0) {
+                make_plan(i, 1);
+                store_plan(piece, bytes, p + 1 + i * pieces);
+            }
+    }
+    uint32_t middle = count / 4 * 2;
+    plan_number = 1 + middle * pieces;
+    make_plan(middle, 1);
+}
+
+static void call_store(void) { answered = store_plan(plan_file, plan_bytes, plan_number); }
+static void call_fetch(void) { answered = ojeonbut_plan_fetch(plan_file, plan_bytes, plan_number, plan_again, PLAN_ROUTES * PLAN_WIDTH, PLAN_WIDTH); }
+static void call_withdraw(void) { answered = ojeonbut_plan_withdraw(plan_file, plan_bytes, plan_number); }
+static void call_collect(void) { answered = ojeonbut_plan_collect(plan_file, plan_bytes); }
+
+/* The milliseconds of a call that has to end in 0, where they are the least so far. */
+static void time_call(void (*call)(void), double *least)
+{
+    double begin = seconds();
+    call();
+    *least = fmin(*least, 1e3 * (seconds() - begin));
+    plans_right &= answered.outcome == OJEONBUT_FOUND;
+}
+
+/* A plan of the file's middle withdrawn, the records collected, the plan stored where it was and fetched. */
+static void row_of_plans(const char *name)
+{
+    double store = INFINITY, fetch = INFINITY, withdraw = INFINITY, collect = INFINITY;
+    plans_right = true;
+    for (int i = 0; i < 9; i++) {
+        time_call(call_withdraw, &withdraw);
+        memcpy(plan_copy, plan_file, plan_bytes);
+        time_call(call_collect, &collect);
+        memcpy(plan_file, plan_copy, plan_bytes);
+        time_call(call_store, &store);
+        time_call(call_fetch, &fetch);
+        plans_right &= answered.number == PLAN_ROUTES && memcmp(plan_slots, plan_again, sizeof plan_slots) == 0;
+    }
+    printf("%8zu  %-9s %9.3f %9.3f %9.3f %9.3f\n", plan_bytes / OJEONBUT_PLAN_RECORD, name, store, fetch, withdraw, collect);
+    queries++;
+    agreed += plans_right;
+}
+
+static void table_of_plans(void)
+{
+    printf("\nPlans. Milliseconds of each call on a full file of accepted plans, the least of nine. Rising: written by stores with rising plan numbers. Scattered: in each thousand\n"
+           "records every other plan withdrawn and stored again with other routes.\n"
+           " records  file          store     fetch  withdraw   collect\n");
+    for (size_t records = PIECE; records <= PLAN_RECORDS; records *= PLAN_RECORDS / PIECE) {
+        make_rising(records);
+        row_of_plans("rising");
+        make_scattered(records);
+        row_of_plans("scattered");
+    }
+}
+
+/* Each store has another number, and each withdrawal takes the last stored. */
+static void work_plan_store(void)
+{
+    call_store();
+    plan_number++;
+    plans_right &= answered.outcome == OJEONBUT_FOUND;
+}
+
+static void work_plan_withdraw(void)
+{
+    plan_number--;
+    call_withdraw();
+    plans_right &= answered.outcome == OJEONBUT_FOUND;
+}
+
+static void stack_of_plans(void)
+{
+    make_scattered(PIECE);
+    for (uint32_t i = 0; i < 40; i++) {
+        plan_number = 1 + i;
+        call_withdraw();
+    }
+    plan_number = UINT32_MAX - 9;
+    plans_right = true;
+    printf("  ojeonbut_plan_store %7zu  a scattered file of %d records\n", stack_of(work_plan_store), PIECE);
+    printf("  ojeonbut_plan_withdraw %4zu\n", stack_of(work_plan_withdraw));
+    work_plan_store();
+    plan_number--;
+    printf("  ojeonbut_plan_fetch %7zu\n", stack_of(call_fetch));
+    plans_right &= answered.outcome == OJEONBUT_FOUND;
+    printf("  ojeonbut_plan_collect %5zu\n", stack_of(call_collect));
+    plans_right &= answered.outcome == OJEONBUT_FOUND;
+    queries++;
+    agreed += plans_right;
+}
+
 static void table_of_stack(void)
 {
     make(&net, 64, 64, LONGEST);
@@ -489,6 +636,7 @@ static void table_of_stack(void)
         printf("  ojeonbut_write_roads %6zu\n", stack_of(work_write_roads));
         printf("  ojeonbut_read_roads %7zu\n", stack_of(work_read_roads));
     }
+    stack_of_plans();
     stack_of_query(LONGEST);
     stack_of_query(1);
     printf("Memory: %d bytes a label, lent by the caller: %d for room %d, %d for the greatest room.\n", OJEONBUT_LABEL, ROOM * OJEONBUT_LABEL, ROOM,
@@ -514,6 +662,7 @@ int main(int argc, char **argv)
     if (!quick) {
         table_of_growth();
         table_of_roads();
+        table_of_plans();
         table_of_stack();
     }
     printf("\nqueries %" PRIu32 ", agreed %" PRIu32 "\n", queries, agreed);

@@ -2,7 +2,7 @@
  *
  * What the caller must ensure, for every call: each pointer is valid for the length given with it and not NULL, also where that length is 0, for
  * writing where it is not const; no buffer that is written overlaps another buffer of the same call; nothing else changes any of them during the call;
- * `area`, `summaries` and `ratios` are aligned for their types. Nothing else: any bytes, any numbers and any lengths are taken, and what is wrong is refused.
+ * `area`, `slots`, `summaries` and `ratios` are aligned for their types. Nothing else: any bytes, any numbers and any lengths are taken, and what is wrong is refused.
  *
  * The calls keep nothing between them, allocate nothing, and may run in several threads at once on different buffers. docs/FIGURES.md has the stack they need.
  * Link libojeonbut.a, which is for x86-64 Linux. */
@@ -17,7 +17,7 @@ extern "C" {
 #endif
 
 /* The version that this header declares; ojeonbut_version() gives the archive's. It goes up with every change that a caller can see: docs/CHANGES.md. */
-#define OJEONBUT_VERSION 5
+#define OJEONBUT_VERSION 6
 
 /* A road table: arc records of 16 bytes, little-endian: start node, end node, length, road number (bytes 12 to 15); 4 bytes each. Records stand in order of start node.
  * An arc's number is its record's, from 0; a node's is below the node count. Arcs that have one road number other than 0 are of one road, as both sides of a street are;
@@ -26,14 +26,16 @@ extern "C" {
 #define OJEONBUT_NODES 4096     /* the most nodes; the least is 1 */
 #define OJEONBUT_ARCS 16384     /* the most arcs */
 #define OJEONBUT_LENGTH 1000000 /* the greatest length of an arc; the least is 1 */
-#define OJEONBUT_ROUTES 8       /* the most routes of a query; the least is 1 */
+#define OJEONBUT_ROUTES 8       /* the most routes of a query or of a stored plan; the least is 1 */
 #define OJEONBUT_LABEL 96       /* bytes of a label */
 #define OJEONBUT_LABELS 65535   /* the most whole labels that may be lent */
 #define OJEONBUT_NONE 4294967295u /* a word of a slot that holds no arc */
+#define OJEONBUT_PLAN_RECORD 32 /* bytes of a record in a file of accepted plans */
+#define OJEONBUT_PLAN_WIDTH 65535 /* the most words of a slot that a plan is stored from */
 
 /* The outcomes. `number` is what stands beside each in ojeonbut_reply; where none is named it is 0. 12 is the desk program's, for malformed text: no call gives it. */
 enum ojeonbut_outcome {
-    OJEONBUT_FOUND = 0,     /* all k routes found; from ojeonbut_check: the table has no fault; from the calls for road files: done */
+    OJEONBUT_FOUND = 0,     /* all k routes found; from ojeonbut_check: the table has no fault; from the calls for road files and for plans: done; number, from ojeonbut_plan_fetch: the routes */
     OJEONBUT_FEWER = 1,     /* fewer than k routes found, and no further one exists */
     OJEONBUT_NODE = 2,      /* a record names a node not below the node count; number: the record */
     OJEONBUT_LOOP = 3,      /* a record starts and ends at one node; number: the record */
@@ -43,11 +45,15 @@ enum ojeonbut_outcome {
     OJEONBUT_ENDS = 7,      /* start or goal not below the node count, or equal */
     OJEONBUT_WANTED = 8,    /* k outside 1 to 8 */
     OJEONBUT_THRESHOLD = 9, /* b outside 1 to 1,000, or a not below b */
-    OJEONBUT_BUFFERS = 10,  /* area under k * (nodes - 1) words, fewer than k summaries or ratios, or over 65,535 whole labels; the area lent for a table or a text too short */
+    OJEONBUT_BUFFERS = 10,  /* area under k * (nodes - 1) words, fewer than k summaries or ratios, or over 65,535 whole labels; the area lent for a table or a text too short; a slot narrower than a route of the plan, or fewer words than its slots */
     OJEONBUT_ROOM = 11,     /* a round needs more labels than were lent; number: the round, from 1 */
     OJEONBUT_SIZE = 13,     /* node count outside 1 to 4,096, table bytes not a multiple of 16, or over 16,384 records */
     OJEONBUT_FILE = 14,     /* a road file is malformed; number: its first line, from 1, that is none of the permitted ones, or the number a missing line would have */
     OJEONBUT_CLOSURES = 15, /* closure bytes of another number than the arcs, or one that is neither 0 nor 1 */
+    OJEONBUT_PLAN_FILE = 16, /* a file of accepted plans is out of form, in any of its records */
+    OJEONBUT_PLAN_REQUEST = 17, /* plan number zero; on storing, not 1 to 8 routes, an empty one, slots out of form, or an arc number above 16,383 */
+    OJEONBUT_PLAN_THERE = 18, /* the plan is already there, on storing; it is absent, on fetching or withdrawing */
+    OJEONBUT_PLAN_ROOM = 19, /* fewer free records than the plan needs */
     OJEONBUT_NUMBERED = 27  /* a table to be written as a road file has a road number other than 0; number: the record, the lowest such */
 };
 
@@ -134,6 +140,38 @@ ojeonbut_made ojeonbut_read_roads(const uint8_t *text, size_t text_bytes, uint8_
  * file carries no road numbers; then 10 where text_bytes is below the file's. A refusal changes no byte; nor does a write past the file made. Reading the file gives the table
  * back, byte for byte, and its node count. */
 ojeonbut_made ojeonbut_write_roads(const uint8_t *table, size_t table_bytes, uint32_t nodes, uint8_t *text, size_t text_bytes);
+
+/* A file of accepted plans: records of OJEONBUT_PLAN_RECORD bytes, no header, little-endian. A free record is all zero, so that a new file is any number of zero records.
+ * A record in use holds a part of a route:
+ *   bytes 0 to 3    the plan's number, not zero
+ *   byte 4          the rank of the route in the plan, from 0 to 7
+ *   byte 5          how many arcs stand here, 1 to 6
+ *   bytes 6 and 7   the number of the part in the route, from 0
+ *   bytes 8 to 31   six arc numbers, each at most 16,383; those not used are OJEONBUT_NONE
+ * All parts of a route but its last hold six arcs. A plan's ranks, and the parts of each rank, run from 0 to their last without a gap, each once; records may stand in any order.
+ * Every call first checks the whole file: where a record is otherwise, or file_bytes is not a multiple of 32, the outcome is 16. A refusal changes no byte of any buffer.
+ *
+ * Stores a plan from `routes` slots of `width` words in an area of exactly that many words: slot r (from 0) is words r * width up to (r + 1) * width, the arc numbers of the route
+ * of rank r in order, then only OJEONBUT_NONE. Its parts go to the lowest free records, by rank and then by part; a route of n arcs takes one record for each six arcs begun.
+ * Refusals, in this order:
+ *   16   the file is out of form
+ *   17   `plan` is zero; `routes` is not 1 to 8; `width` is above OJEONBUT_PLAN_WIDTH; slot_words is not routes * width; a slot has no arc, an arc after OJEONBUT_NONE, or another
+ *        number above 16,383
+ *   18   the file has a plan of this number
+ *   19   fewer records are free than the plan takes
+ * After 0 the records taken are written whole, and no other byte of the file has changed. */
+ojeonbut_reply ojeonbut_plan_store(uint8_t *file, size_t file_bytes, uint32_t plan, const uint32_t *slots, size_t slot_words, uint32_t routes, uint32_t width);
+
+/* Fetches a plan into slots of `width` words, of any width: after 0, `number` is how many routes it has, and the slot of each holds its arc numbers in order, then OJEONBUT_NONE.
+ * Words after the last of these slots are untouched. Refusals, in this order: 16; 17 where `plan` is zero; 18 where the file has no such plan; 10 where a route is longer than
+ * `width`, or slot_words is below `width` for each route. */
+ojeonbut_reply ojeonbut_plan_fetch(const uint8_t *file, size_t file_bytes, uint32_t plan, uint32_t *slots, size_t slot_words, uint32_t width);
+
+/* Withdraws a plan: all bytes of its records become zero, and no other byte changes. Refusals, in this order: 16; 17 where `plan` is zero; 18 where the file has no such plan. */
+ojeonbut_reply ojeonbut_plan_withdraw(uint8_t *file, size_t file_bytes, uint32_t plan);
+
+/* Collects the records in use at the front of the file, in their order; all bytes after them become zero. What each plan is fetched as does not change. Refusal: 16. */
+ojeonbut_reply ojeonbut_plan_collect(uint8_t *file, size_t file_bytes);
 
 #ifdef __cplusplus
 }

@@ -3,11 +3,20 @@
 //! What that header asks of a caller, Rust's slices ensure: they are valid for their lengths, and a `&mut` one overlaps no other.
 
 /// The version of include/ojeonbut.h that these calls are for. Each call asks once that the archive linked is of it, and panics where it is not.
-pub const VERSION: u32 = 5;
+pub const VERSION: u32 = 6;
+
+/// Bytes of a record in a file of accepted plans.
+pub const PLAN_RECORD: usize = 32;
+
+/// The most words of a slot that a plan is stored from.
+pub const PLAN_WIDTH: u32 = 65535;
+
+/// A word of a slot that holds no arc.
+pub const NONE: u32 = u32::MAX;
 
 /// The outcomes, by number. What the number beside each says is in include/ojeonbut.h.
 pub mod outcome {
-    /// All k routes found; from `check`: the table has no fault; from the calls for road files: done.
+    /// All k routes found; from `check`: the table has no fault; from the calls for road files and for plans: done.
     pub const FOUND: u32 = 0;
     /// Fewer than k routes found, and no further one exists.
     pub const FEWER: u32 = 1;
@@ -26,7 +35,7 @@ pub mod outcome {
     pub const WANTED: u32 = 8;
     /// b outside 1 to 1,000, or a not below b.
     pub const THRESHOLD: u32 = 9;
-    /// Area or summaries too few, labels too many, or too short an area for a table or a text.
+    /// Area or summaries too few, labels too many, or too short an area for a table, a text or a plan's slots.
     pub const BUFFERS: u32 = 10;
     /// A round needs more labels than were lent.
     pub const ROOM: u32 = 11;
@@ -36,6 +45,14 @@ pub mod outcome {
     pub const FILE: u32 = 14;
     /// Closure bytes of another number than the arcs, or one that is neither 0 nor 1.
     pub const CLOSURES: u32 = 15;
+    /// A file of accepted plans is out of form.
+    pub const PLAN_FILE: u32 = 16;
+    /// Plan number zero; on storing, not 1 to 8 routes, an empty one, slots out of form, or an arc number above 16,383.
+    pub const PLAN_REQUEST: u32 = 17;
+    /// The plan is already there, on storing; it is absent, on fetching or withdrawing.
+    pub const PLAN_THERE: u32 = 18;
+    /// Fewer free records than the plan needs.
+    pub const PLAN_ROOM: u32 = 19;
     /// A table to be written as a road file has a road number other than 0; beside it stands the record.
     pub const NUMBERED: u32 = 27;
 }
@@ -145,6 +162,10 @@ mod raw {
         pub fn ojeonbut_next_arc(closed: *const u8, closed_bytes: usize, place: usize, end: usize) -> usize;
         pub fn ojeonbut_read_roads(text: *const u8, text_bytes: usize, table: *mut u8, table_bytes: usize) -> Made;
         pub fn ojeonbut_write_roads(table: *const u8, table_bytes: usize, nodes: u32, text: *mut u8, text_bytes: usize) -> Made;
+        pub fn ojeonbut_plan_store(file: *mut u8, file_bytes: usize, plan: u32, slots: *const u32, slot_words: usize, routes: u32, width: u32) -> Reply;
+        pub fn ojeonbut_plan_fetch(file: *const u8, file_bytes: usize, plan: u32, slots: *mut u32, slot_words: usize, width: u32) -> Reply;
+        pub fn ojeonbut_plan_withdraw(file: *mut u8, file_bytes: usize, plan: u32) -> Reply;
+        pub fn ojeonbut_plan_collect(file: *mut u8, file_bytes: usize) -> Reply;
     }
 }
 
@@ -307,4 +328,32 @@ pub fn write_roads(table: &[u8], nodes: u32, text: &mut [u8]) -> Made {
     ask_version();
     // SAFETY: as for `read_roads`.
     unsafe { raw::ojeonbut_write_roads(table.as_ptr(), table.len(), nodes, text.as_mut_ptr(), text.len()) }
+}
+
+/// The routes in `routes` slots of `width` words stored as a plan, in the lowest free records of `file`.
+pub fn plan_store(file: &mut [u8], plan: u32, slots: &[u32], routes: u32, width: u32) -> Reply {
+    ask_version();
+    // SAFETY: as for `read_roads`.
+    unsafe { raw::ojeonbut_plan_store(file.as_mut_ptr(), file.len(), plan, slots.as_ptr(), slots.len(), routes, width) }
+}
+
+/// A plan's routes fetched into slots of `width` words at the front of `slots`; beside outcome 0 stands their number.
+pub fn plan_fetch(file: &[u8], plan: u32, slots: &mut [u32], width: u32) -> Reply {
+    ask_version();
+    // SAFETY: as for `read_roads`.
+    unsafe { raw::ojeonbut_plan_fetch(file.as_ptr(), file.len(), plan, slots.as_mut_ptr(), slots.len(), width) }
+}
+
+/// A plan's records made free.
+pub fn plan_withdraw(file: &mut [u8], plan: u32) -> Reply {
+    ask_version();
+    // SAFETY: the slice is valid for its length and borrowed mutably.
+    unsafe { raw::ojeonbut_plan_withdraw(file.as_mut_ptr(), file.len(), plan) }
+}
+
+/// The records in use moved to the front of the file in their order, and zeros after them.
+pub fn plan_collect(file: &mut [u8]) -> Reply {
+    ask_version();
+    // SAFETY: as for `plan_withdraw`.
+    unsafe { raw::ojeonbut_plan_collect(file.as_mut_ptr(), file.len()) }
 }

@@ -1,7 +1,6 @@
 //! The scope's example through the safe calls.
-use ojeonbut::{arcs_from, check, next_arc, outcome, query, query_closed, query_ratios, read_roads, version, write_roads, Made, Ratios, Reply, Summary, VERSION};
-
-const NONE: u32 = u32::MAX;
+use ojeonbut::{arcs_from, check, next_arc, outcome, plan_collect, plan_fetch, plan_store, plan_withdraw, query, query_closed, query_ratios, read_roads, version, write_roads};
+use ojeonbut::{Made, Ratios, Reply, Summary, NONE, PLAN_RECORD, PLAN_WIDTH, VERSION};
 
 fn table() -> Vec<u8> {
     let arcs: [[u32; 4]; 5] = [[0, 1, 2, 0], [0, 2, 3, 0], [1, 2, 1, 0], [1, 3, 2, 0], [2, 3, 2, 0]];
@@ -95,6 +94,45 @@ fn road_files() {
     assert_eq!(read_roads(b"p sp 2 1\na 0 1 1\n", &mut few), Made { outcome: outcome::FILE, number: 2, bytes: 0, nodes: 0 });
     assert_eq!(write_roads(&table(), 3, &mut few), Made { outcome: outcome::NODE, number: 3, bytes: 0, nodes: 0 });
     assert!(few.iter().all(|&b| b == 85));
+}
+
+fn reply(outcome: u32, number: u32) -> Reply {
+    Reply { outcome, number }
+}
+
+/// A record as document 02's item 6 lays it out.
+fn plan_record(plan: u32, rank: u8, part: u16, arcs: &[u32]) -> Vec<u8> {
+    let mut bytes = plan.to_le_bytes().to_vec();
+    bytes.extend([rank, arcs.len() as u8]);
+    bytes.extend(part.to_le_bytes());
+    bytes.extend((0..6).flat_map(|j| arcs.get(j).copied().unwrap_or(NONE).to_le_bytes()));
+    bytes
+}
+
+#[test]
+fn plans() {
+    let mut file = [0u8; 5 * PLAN_RECORD];
+    let mut area = [7u32; 17];
+    let slots = [0, 3, NONE, NONE, NONE, NONE, NONE, NONE, 0, 1, 2, 3, 4, 5, 6, 16383];
+    assert_eq!(plan_store(&mut file, 9, &[5], 1, 1), reply(outcome::FOUND, 0));
+    assert_eq!(plan_store(&mut file, u32::MAX, &slots, 2, 8), reply(outcome::FOUND, 0));
+    let due = [plan_record(9, 0, 0, &[5]), plan_record(u32::MAX, 0, 0, &[0, 3]), plan_record(u32::MAX, 1, 0, &[0, 1, 2, 3, 4, 5]), plan_record(u32::MAX, 1, 1, &[6, 16383]), vec![0; 32]];
+    assert_eq!(file[..], due.concat()[..]);
+    assert_eq!(plan_store(&mut file, 9, &[5], 1, 1), reply(outcome::PLAN_THERE, 0));
+    assert_eq!(plan_store(&mut file, 8, &[5, 6], 2, 1), reply(outcome::PLAN_ROOM, 0));
+    assert_eq!(plan_store(&mut file, 8, &[5, 6], 1, 1), reply(outcome::PLAN_REQUEST, 0));
+    assert_eq!(plan_store(&mut file, 8, &vec![5; PLAN_WIDTH as usize + 1], 1, PLAN_WIDTH + 1), reply(outcome::PLAN_REQUEST, 0));
+    assert_eq!(plan_fetch(&file, u32::MAX, &mut area, 7), reply(outcome::BUFFERS, 0));
+    assert_eq!(plan_fetch(&file, u32::MAX, &mut area[..15], 8), reply(outcome::BUFFERS, 0));
+    assert_eq!((area, &file[..]), ([7; 17], &due.concat()[..]));
+    assert_eq!(plan_fetch(&file, u32::MAX, &mut area, 8), reply(outcome::FOUND, 2));
+    assert_eq!((&area[..16], area[16]), (&slots[..], 7));
+    assert_eq!(plan_withdraw(&mut file, 9), reply(outcome::FOUND, 0));
+    assert_eq!(plan_withdraw(&mut file, 9), reply(outcome::PLAN_THERE, 0));
+    assert_eq!(file[..PLAN_RECORD], [0; PLAN_RECORD]);
+    assert_eq!(plan_collect(&mut file), reply(outcome::FOUND, 0));
+    assert_eq!(file[..], [due[1..].concat(), vec![0; 32]].concat()[..]);
+    assert_eq!(plan_collect(&mut file[..33]), reply(outcome::PLAN_FILE, 0));
 }
 
 #[test]

@@ -8,12 +8,15 @@ ghost use Rattle.table.specs.Fault.{tableFault, good};
 ghost use Rattle.closures.specs.Closed.{nextOpen};
 ghost use Rattle.query.specs.Query.{input, inputClosed, Replied};
 ghost use Rattle.query_ratios.specs.Rated.{RepliedRatios};
+ghost use Rattle.plan_store.specs.Store.{Stored};
+ghost use Rattle.plan_fetch.specs.Fetch.{Fetched};
+ghost use Rattle.plan_change.specs.Change.{Withdrawn, Collected};
 ghost use Rattle.road_read.specs.Read.{Read};
 ghost use Rattle.road_write.specs.Written.{Written};
 ghost use Rattle.ojeonbut.specs.Exported.{version, runPart, partOf, numbersOf, Numbered};
 
 // OJEONBUT_VERSION of include/ojeonbut.h.
-const VERSION: u32 = 5;
+const VERSION: u32 = 6;
 
 // A part of a table: the place of its first byte, and its number of bytes.
 #[repr(C)]
@@ -225,4 +228,45 @@ pub extern "C" fn ojeonbut_write_roads(table: &[u8], nodes: u32, text: &mut [u8]
 {
     let made = road_write::write(table, nodes, text);
     numbers(made)
+}
+
+// The routes in `routes` slots of `width` words stored under a plan number in a file of accepted
+// plans.
+#[no_mangle]
+pub extern "C" fn ojeonbut_plan_store(
+    file: &mut [u8],
+    plan: u32,
+    slots: &[u32],
+    routes: u32,
+    width: u32,
+) -> Told
+    ensures { λ r. ⌜ Stored (now (file .entry)) plan (now (slots .entry)) routes width r
+        (now (file .exit)) ⌝ }
+{
+    plan_store::store(file, plan, slots, routes, width)
+}
+
+// The routes of a plan in slots of `width` words; beside 0 stands their number.
+#[no_mangle]
+pub extern "C" fn ojeonbut_plan_fetch(file: &[u8], plan: u32, slots: &mut [u32], width: u32) -> Told
+    ensures { λ r. ⌜ Fetched (now (file .entry)) plan (now (slots .entry)) width r
+        (now (slots .exit)) ⌝ }
+{
+    plan_fetch::fetch(file, plan, slots, width)
+}
+
+// The records of a plan made free.
+#[no_mangle]
+pub extern "C" fn ojeonbut_plan_withdraw(file: &mut [u8], plan: u32) -> Told
+    ensures { λ r. ⌜ Withdrawn (now (file .entry)) plan r (now (file .exit)) ⌝ }
+{
+    plan_change::withdraw(file, plan)
+}
+
+// The records in use moved to the front, and zeros after them.
+#[no_mangle]
+pub extern "C" fn ojeonbut_plan_collect(file: &mut [u8]) -> Told
+    ensures { λ r. ⌜ Collected (now (file .entry)) r (now (file .exit)) ⌝ }
+{
+    plan_change::collect(file)
 }

@@ -64,6 +64,23 @@ file = 14
 abbrev pub closures : ℕ
 closures = 15
 
+-- "length not a multiple of 32, a free record not all zero, a field outside its form, an arc number above 16,383, or a plan whose ranks (0 to 7) or parts have a gap or
+-- a double" (02.6)
+abbrev pub planFile : ℕ
+planFile = 16
+
+-- "plan number zero, or on storing not 1 to 8 routes, an empty one, slots out of form or such an arc number" (02.6)
+abbrev pub planRequest : ℕ
+planRequest = 17
+
+-- "already there on storing, absent on fetching or withdrawing" (02.6)
+abbrev pub planThere : ℕ
+planThere = 18
+
+-- "fewer free records than needed, and never else" (02.6)
+abbrev pub planRoom : ℕ
+planRoom = 19
+
 -- "the writer meets a road number that isn't zero, with the lowest such record" (02.5)
 abbrev pub numbered : ℕ
 numbered = 27

@@ -39,6 +39,14 @@ pub const FILE: u32 = 14;
 
 pub const CLOSURES: u32 = 15;
 
+pub const PLAN_FILE: u32 = 16;
+
+pub const PLAN_REQUEST: u32 = 17;
+
+pub const PLAN_THERE: u32 = 18;
+
+pub const PLAN_ROOM: u32 = 19;
+
 pub const NUMBERED: u32 = 27;
 
 // An outcome beside which no number is named.

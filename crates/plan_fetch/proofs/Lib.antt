@@ -1,0 +1,3 @@
+pub mod PassLaws
+pub mod LayLaws
+pub mod FetchLaws

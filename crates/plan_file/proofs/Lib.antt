@@ -1,0 +1,9 @@
+pub mod EachLaws
+pub mod SoundLaws
+pub mod SameLaws
+pub mod ThereLaws
+pub mod KeptLaws
+pub mod MeaningLaws
+pub mod ScanLaws
+pub mod FileLaws
+pub mod PassLaws

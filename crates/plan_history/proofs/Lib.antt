@@ -1,0 +1,12 @@
+pub mod AnswerLaws
+pub mod KeepLaws
+pub mod SlotsLaws
+pub mod RowLaws
+pub mod PartsLaws
+pub mod PlacedLaws
+pub mod RequestLaws
+pub mod StoredLaws
+pub mod Stores
+pub mod Withdraws
+pub mod Collects
+pub mod Histories

@@ -1,0 +1,5 @@
+pub mod SlotLaws
+pub mod PartLaws
+pub mod PlaceLaws
+pub mod TurnLaws
+pub mod OutcomeLaws
