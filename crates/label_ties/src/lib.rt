@@ -6,6 +6,10 @@
 //
 // Label 6 is left for label 4, from which arc 2 goes on: 2 against 8, the first comes first. Then
 // both step back, by 7 against 5: the second comes first. At label 1 they meet.
+//
+// Where the far ancestor does not pass the walk's end, the walk goes there: so it costs a logarithm
+// of the number of arcs. What is passed over does not count, since far ancestors that differ stand
+// for chains that differ.
 use labels::field;
 ghost use mathlib.Core.Path.{_≡_};
 ghost use mathlib.Core.List.{[], _∷_, _++_};
@@ -15,7 +19,7 @@ ghost use lib.ListN.{length, take, getD};
 ghost use Rattle.lists.specs.Tests.{lex};
 ghost use Rattle.net.specs.Route.{numbersFirst};
 ghost use Rattle.labels.specs.Chain.{chainAt};
-ghost use Rattle.labels.specs.Standing.{Down};
+ghost use Rattle.labels.specs.Standing.{Down, Jumping, Comparable};
 ghost use Rattle.label_ties.specs.Together.{together};
 
 // A label, and the arc by which a chain goes on from it.
@@ -37,7 +41,7 @@ fn decide(p: u32, q: u32, after: bool) -> bool
     after
 }
 
-fn lower(x: usize, y: usize) -> usize
+fn lower(x: u16, y: u16) -> u16
     ensures { λ r. ⌜ (r ≤ x) × (r ≤ y) × ((r ≡ x) ⊎ (r ≡ y)) ⌝ }
 {
     if x < y {
@@ -46,18 +50,25 @@ fn lower(x: usize, y: usize) -> usize
     y
 }
 
-// Of a chain of k arcs and one arc more: the label of its first d arcs, and the arc after those.
-fn climb(labels: &[u8], n: usize, label: usize, arc: u32, k: usize, d: usize) -> Left
-    requires { ⌜ (Down (now labels) n) × (label < n)
-        × (k ≡ length (chainAt (now labels) label)) × (d ≤ k) ⌝ }
+// Of a chain and one arc more: the label of its first d arcs, and the arc after those.
+fn climb(labels: &[u8], n: usize, label: usize, arc: u32, d: u16) -> Left
+    requires { ⌜ (Down (now labels) n) × (Jumping (now labels) n) × (label < n)
+        × (d ≤ length (chainAt (now labels) label)) ⌝ }
     ensures { λ r. ⌜ (r .label < n)
         × (chainAt (now (labels .entry)) (r .label) ≡ take d (chainAt (now (labels .entry)) label))
         × (r .arc ≡ getD (chainAt (now (labels .entry)) label ++ (arc ∷ [])) d 0) ⌝ }
 {
     let mut at = label;
     let mut next = arc;
-    let mut e = k;
+    let mut e = field::depth(labels, label);
     while e > d {
+        let far = field::far(labels, at) as usize;
+        let f = field::depth(labels, far);
+        if f > d {
+            at = far;
+            e = f;
+            continue;
+        }
         next = field::last_arc(labels, at);
         at = field::extends(labels, at) as usize;
         e -= 1;
@@ -70,7 +81,7 @@ fn climb(labels: &[u8], n: usize, label: usize, arc: u32, k: usize, d: usize) ->
 
 // Two chains of as many arcs compared from the start; where all are equal, `after`.
 fn together(labels: &[u8], n: usize, u: usize, v: usize, after: bool) -> bool
-    requires { ⌜ (Down (now labels) n) × (u < n) × (v < n)
+    requires { ⌜ (Comparable (now labels) n) × (u < n) × (v < n)
         × (length (chainAt (now labels) u) ≡ length (chainAt (now labels) v)) ⌝ }
     ensures { λ r. ⌜ r ≡ together (chainAt (now (labels .entry)) u)
         (chainAt (now (labels .entry)) v) after ⌝ }
@@ -79,6 +90,13 @@ fn together(labels: &[u8], n: usize, u: usize, v: usize, after: bool) -> bool
     let mut y = v;
     let mut r = after;
     while x != y {
+        let x_far = field::far(labels, x) as usize;
+        let y_far = field::far(labels, y) as usize;
+        if x_far != y_far {
+            x = x_far;
+            y = y_far;
+            continue;
+        }
         let x_extends = field::extends(labels, x) as usize;
         let y_extends = field::extends(labels, y) as usize;
         r = decide(field::last_arc(labels, x), field::last_arc(labels, y), r);
@@ -90,14 +108,14 @@ fn together(labels: &[u8], n: usize, u: usize, v: usize, after: bool) -> bool
 
 // Whether the arc numbers of label i's chain with arc a come before those of label j's with arc c.
 pub fn numbers_first(labels: &[u8], n: usize, i: usize, a: u32, j: usize, c: u32) -> bool
-    requires { ⌜ (Down (now labels) n) × (i < n) × (j < n) ⌝ }
+    requires { ⌜ (Comparable (now labels) n) × (i < n) × (j < n) ⌝ }
     ensures { λ r. ⌜ r ≡ numbersFirst (chainAt (now (labels .entry)) i ++ (a ∷ []))
         (chainAt (now (labels .entry)) j ++ (c ∷ [])) ⌝ }
 {
-    let k = labels::chain::arcs(labels, n, i);
-    let m = labels::chain::arcs(labels, n, j);
+    let k = field::depth(labels, i);
+    let m = field::depth(labels, j);
     let d = lower(k, m);
-    let x = climb(labels, n, i, a, k, d);
-    let y = climb(labels, n, j, c, m, d);
+    let x = climb(labels, n, i, a, d);
+    let y = climb(labels, n, j, c, d);
     together(labels, n, x.label, y.label, decide(x.arc, y.arc, k < m))
 }

@@ -13,7 +13,8 @@ use Rattle.net.proofs.Sorted.{Increasing}
 use Rattle.labels.specs.Field.{labelBytes, mostEarlier, Row, putRow}
 use Rattle.labels.specs.Rows.{rowOf, rowsOf, putRows, labelled}
 use Rattle.labels.proofs.OverlapLaws.{length-overlapsOf}
-use Rattle.labels.proofs.StoreLaws.{length-putRow, drop-putRow, emptyRow}
+use Rattle.labels.proofs.StoreLaws.{length-putRow, drop-putRow}
+use Rattle.labels.proofs.StandingLaws.{emptyRow}
 
 -- ---- rows
 

@@ -1,7 +1,6 @@
 -- A row stored as label n. Its fields are read back, and those of the labels below it are as they were: a store changes its own bytes only, and two fields lie
--- apart. So the first n labels stand for the chains that they stood for and hold their overlaps, and label n stands for the chain of the label that it extends
--- and one arc more.
-use mathlib.Core.Path.{_≡_, refl, sym, ap, ap₂, _∙_}
+-- apart. So the first n labels stand for the chains that they stood for, and label n stands for the chain of the label that it extends and one arc more.
+use mathlib.Core.Path.{_≡_, refl, ap, ap₂, _∙_}
 use mathlib.Core.Bool.{true}
 use mathlib.Core.List.{List, [], _∷_, _++_}
 use mathlib.Core.Logic.{inl, ⊎-elim}
@@ -15,29 +14,31 @@ use Rattle.lists.specs.Tests.{upFrom}
 use Rattle.lists.proofs.Cases.{order}
 use Rattle.lists.proofs.IndexLaws.{length-tab, getD-tab, tab-cong}
 use Rattle.lists.proofs.LoopLaws.{map-upFrom-more, map-upFrom-cong, length-map-upFrom, getD-map-upFrom}
-use Rattle.words.specs.Number.{num}
+use Rattle.words.specs.Number.{num, put}
 use Rattle.words.proofs.NumberLaws.{length-put, num-put-other}
 use Rattle.words.proofs.RecordLaws.{num-put-near, num-put-in, drop-put}
-use Rattle.net.specs.Net.{Arc, Net}
-use Rattle.net.specs.Route.{endOf, lengthOf}
-use Rattle.net.specs.Limits.{mostNodes, mostLength, mostLabels}
 use Rattle.net.specs.Labels.{start, extend}
-use Rattle.labels.specs.Field.{labelBytes, headBytes, mostEarlier, noNumber, lastArcAt, extendsAt, lengthAt, endAt, overlapAt, overlapsAt, Row, putHead, puts, putRow}
+use Rattle.labels.specs.Field.{labelBytes, headBytes, mostEarlier, noNumber, lastArcAt, extendsAt, lengthAt, endAt, depthAt, farAt, farOf, depthOf, overlapAt, overlapsAt, Row, putHead, puts, putRow}
 use Rattle.labels.specs.Chain.{steps, chainAt, chainsIn, labelAt, labelsIn}
-use Rattle.labels.specs.Rows.{overlapsOf}
-use Rattle.labels.specs.Standing.{Down, Standing, Holding}
+use Rattle.labels.specs.Standing.{Down}
 use Rattle.labels.proofs.PutsLaws.{length-puts, num-puts-other, drop-puts, num-puts}
-use Rattle.labels.proofs.OverlapLaws.{length-overlapsOf, overlaps-most}
-use Rattle.labels.proofs.ChainLaws.{chain-empty, chain-none, chain-more}
+use Rattle.labels.proofs.ChainLaws.{chain-empty, chain-more}
 
 -- each number fits its field, and there are no more overlaps than a label holds
 pub record Fits (x : Row) : Type 0 where
   pub last-arc : x .last-arc < 2 ^ 32
   pub extends : x .extends < 2 ^ 16
   pub len : x .len < 2 ^ 64
-  pub end : x .end < 2 ^ 32
+  pub end : x .end < 2 ^ 16
   pub few : length (x .overlaps) ≤ mostEarlier
   pub overlaps : (r : ℕ) → r < length (x .overlaps) → getD (x .overlaps) r 0 < 2 ^ 64
+
+-- as the code stores a head, field by field
+pub head-put : (l m₀ m₁ m₂ m₃ m₄ m₅ : List ℕ) (n arc extends far len end depth : ℕ) → far ≡ farOf l n extends → depth ≡ depthOf l n extends
+    → m₀ ≡ put 4 l (n * labelBytes + 0) arc → m₁ ≡ put 2 m₀ (n * labelBytes + 4) extends → m₂ ≡ put 2 m₁ (n * labelBytes + 6) far → m₃ ≡ put 8 m₂ (n * labelBytes + 8) len
+    → m₄ ≡ put 2 m₃ (n * labelBytes + 16) end → m₅ ≡ put 2 m₄ (n * labelBytes + 18) depth → m₅ ≡ putHead l n arc extends len end
+unfolding putHead
+head-put l m₀ m₁ m₂ m₃ m₄ m₅ n arc extends far len end depth f d e₀ e₁ e₂ e₃ e₄ e₅ = rw (e₅, e₄, e₃, e₂, e₁, e₀, f, d)
 
 module _ (l : List ℕ) (n : ℕ) (x : Row) where
   abbrev headed : List ℕ
@@ -56,8 +57,10 @@ module _ (l : List ℕ) (n : ℕ) (x : Row) where
   drop-putHead m h =
       let a : n * labelBytes + 0 + 4 ≤ m = omega arith in
       let b : n * labelBytes + 4 + 2 ≤ m = omega arith in
-      let c : n * labelBytes + 8 + 8 ≤ m = omega arith in
-      let d : n * labelBytes + 16 + 4 ≤ m = omega arith in
+      let c : n * labelBytes + 6 + 2 ≤ m = omega arith in
+      let d : n * labelBytes + 8 + 8 ≤ m = omega arith in
+      let e : n * labelBytes + 16 + 2 ≤ m = omega arith in
+      let f : n * labelBytes + 18 + 2 ≤ m = omega arith in
       simp drop-put
 
   pub drop-putRow : length (x .overlaps) ≤ mostEarlier → (m : ℕ) → (n + 1) * labelBytes ≤ m → drop m (putRow l n x) ≡ drop m l
@@ -94,7 +97,15 @@ module _ (l : List ℕ) (n : ℕ) (x : Row) where
 
     pub end-same : endAt (putRow l n x) n ≡ x .end
     unfolding putHead
-    end-same = in-head 4 16 (omega arith) ∙ simp (num-put-in labelBytes, length-put, fits-in, f .end)
+    end-same = in-head 2 16 (omega arith) ∙ simp (num-put-near, num-put-in labelBytes, length-put, fits-in, f .end)
+
+    pub far-same : farOf l n (x .extends) < 2 ^ 16 → farAt (putRow l n x) n ≡ farOf l n (x .extends)
+    unfolding putHead
+    far-same h = in-head 2 6 (omega arith) ∙ simp (num-put-near, num-put-in labelBytes, length-put, fits-in, h)
+
+    pub depth-same : depthOf l n (x .extends) < 2 ^ 16 → depthAt (putRow l n x) n ≡ depthOf l n (x .extends)
+    unfolding putHead
+    depth-same h = in-head 2 18 (omega arith) ∙ simp (num-put-in labelBytes, length-put, fits-in, h)
 
     pub overlaps-same : overlapsAt (putRow l n x) n (length (x .overlaps)) ≡ x .overlaps
     unfolding putRow
@@ -114,8 +125,10 @@ module _ (l : List ℕ) (n : ℕ) (x : Row) where
     unfolding putRow putHead
     as-before k o h =
         num-puts-other k headed (n * labelBytes + headBytes) (x .overlaps) (i * labelBytes + o) (inl (omega arith))
-        ∙ num-put-other 4 k _ (n * labelBytes + 16) (i * labelBytes + o) (x .end) (inl (omega arith))
+        ∙ num-put-other 2 k _ (n * labelBytes + 18) (i * labelBytes + o) (depthOf l n (x .extends)) (inl (omega arith))
+        ∙ num-put-other 2 k _ (n * labelBytes + 16) (i * labelBytes + o) (x .end) (inl (omega arith))
         ∙ num-put-other 8 k _ (n * labelBytes + 8) (i * labelBytes + o) (x .len) (inl (omega arith))
+        ∙ num-put-other 2 k _ (n * labelBytes + 6) (i * labelBytes + o) (farOf l n (x .extends)) (inl (omega arith))
         ∙ num-put-other 2 k _ (n * labelBytes + 4) (i * labelBytes + o) (x .extends) (inl (omega arith))
         ∙ num-put-other 4 k l (n * labelBytes + 0) (i * labelBytes + o) (x .last-arc) (inl (omega arith))
 
@@ -129,7 +142,13 @@ module _ (l : List ℕ) (n : ℕ) (x : Row) where
     length-other = as-before 8 8 (omega arith)
 
     pub end-other : endAt (putRow l n x) i ≡ endAt l i
-    end-other = as-before 4 16 (omega arith)
+    end-other = as-before 2 16 (omega arith)
+
+    pub far-other : farAt (putRow l n x) i ≡ farAt l i
+    far-other = as-before 2 6 (omega arith)
+
+    pub depth-other : depthAt (putRow l n x) i ≡ depthAt l i
+    depth-other = as-before 2 18 (omega arith)
 
     pub overlaps-other : (r : ℕ) → r ≤ mostEarlier → overlapsAt (putRow l n x) i r ≡ overlapsAt l i r
     overlaps-other r few = tab-cong r (overlapAt (putRow l n x) i) (overlapAt l i) (λ j h. as-before 8 (headBytes + 8 * j) (omega arith))
@@ -204,89 +223,3 @@ module _ {l : List ℕ} {n : ℕ} (x : Row) (d : Down l n) where
     chains-more =
         map-upFrom-more (chainAt (putRow l n x)) n
         ∙ ap₂ _++_ (map-upFrom-cong (chainAt (putRow l n x)) (chainAt l) 0 n (λ i a b. chain-other i (omega arith))) (ap (λ p. p ∷ []) chain-new)
-
--- ---- what stands while a search goes on
-
--- the row of the empty chain from s
-abbrev pub emptyRow : Net → ℕ → List (List ℕ) → Row
-emptyRow net s earlier = record { last-arc = noNumber; extends = 0; len = 0; end = s; overlaps = overlapsOf net earlier [] }
-
-pub fits-empty : (net : Net) (s : ℕ) (earlier : List (List ℕ)) → s < 2 ^ 32 → length earlier ≤ mostEarlier → Fits (emptyRow net s earlier)
-unfolding lengthOf
-fits-empty net s earlier h few =
-    record {
-      last-arc = omega arith;
-      extends = omega arith;
-      len = omega arith;
-      end = h;
-      few = omega (arith, length-overlapsOf net earlier []);
-      overlaps = λ r b. omega (arith, overlaps-most net earlier [] r);
-    }
-
-module _ (net : Net) (s : ℕ) (earlier : List (List ℕ)) (l : List ℕ) (h : s < 2 ^ 32) (g : labelBytes ≤ length l) (few : length earlier ≤ mostEarlier) where
-  abbrev x : Row
-  x = emptyRow net s earlier
-
-  room : 0 * labelBytes + labelBytes ≤ length l
-  room = omega arith
-
-  none : (i : ℕ) → i < 1 → chainAt (putRow l 0 x) i ≡ []
-  none i b = chain-none (putRow l 0 x) i (omega arith)
-
-  pub standing-first : Standing (net .arcs) s (putRow l 0 x) 1
-  unfolding lengthOf endOf
-  standing-first =
-      let f = fits-empty net s earlier h few in
-      let len : lengthAt (putRow l 0 x) 0 ≡ 0 = length-same l 0 x room f in
-      record {
-        down = record { room = rw length-putRow (omega arith); lower = λ i b ne. absurd (ne (omega arith)) };
-        few = omega arith;
-        is-arc = λ i b ne. absurd (ne (omega arith));
-        lengths = λ i b. let e : i ≡ 0 = omega arith in rw (none i b, e) len;
-        ends = λ i b. let e : i ≡ 0 = omega arith in rw (none i b, e) (end-same l 0 x room f);
-        short = λ i b. rw (none i b) (omega arith);
-        most = λ i b. let e : i ≡ 0 = omega arith in rw e (omega (arith, len));
-      }
-
-  pub holding-first : Holding net earlier (putRow l 0 x) 1
-  holding-first =
-      let f = fits-empty net s earlier h few in
-      record {
-        few = few;
-        overlaps = λ i b.
-            let e : i ≡ 0 = omega arith in
-            rw (none i b, e) (ap (overlapsAt (putRow l 0 x) 0) (sym (length-overlapsOf net earlier [])) ∙ overlaps-same l 0 x room f);
-      }
-
--- what holds of the labels below n and of label n
-below-next : {P : ℕ → Type 0} (n : ℕ) → ((i : ℕ) → i < n → P i) → P n → (i : ℕ) → i < n + 1 → P i
-below-next {P} n h k i b = ⊎-elim (λ w. let e : i ≡ n = omega arith in rw e k) (λ w. h i w) (order n i)
-
-pub standing-more : {arcs : List Arc} {s : ℕ} {l : List ℕ} {n : ℕ} (x : Row) → Standing arcs s l n → n * labelBytes + labelBytes ≤ length l → n < mostLabels → (n ≡ 0 → ⊥)
-    → Fits x → x .extends < n → x .last-arc < length arcs
-    → x .len ≡ lengthOf arcs (chainAt l (x .extends) ++ (x .last-arc ∷ [])) → x .end ≡ endOf arcs s (chainAt l (x .extends) ++ (x .last-arc ∷ []))
-    → length (chainAt l (x .extends) ++ (x .last-arc ∷ [])) < mostNodes → x .len ≤ mostNodes * mostLength → Standing arcs s (putRow l n x) (n + 1)
-standing-more {arcs} {s} {l} {n} x st room few ne f low arc len end short most =
-    let m = putRow l n x in
-    let new : chainAt m n ≡ chainAt l (x .extends) ++ (x .last-arc ∷ []) = chain-new x (st .down) room f ne low in
-    let old : (i : ℕ) → i < n → chainAt m i ≡ chainAt l i = chain-other x (st .down) in
-    record {
-      down = down-more x (st .down) room f (λ z. low);
-      few = omega arith;
-      is-arc = below-next n (λ i b z. rw (last-arc-other l n x i b) (st .is-arc i b z)) (λ z. rw (last-arc-same l n x room f) arc);
-      lengths = below-next n (λ i b. rw (length-other l n x i b, old i b) (st .lengths i b)) (rw (length-same l n x room f, new) len);
-      ends = below-next n (λ i b. rw (end-other l n x i b, old i b) (st .ends i b)) (rw (end-same l n x room f, new) end);
-      short = below-next n (λ i b. rw (old i b) (st .short i b)) (rw new short);
-      most = below-next n (λ i b. rw (length-other l n x i b) (st .most i b)) (rw (length-same l n x room f) most);
-    }
-
-pub holding-more : {net : Net} {earlier : List (List ℕ)} {l : List ℕ} {n : ℕ} (x : Row) → Down l n → Holding net earlier l n → n * labelBytes + labelBytes ≤ length l
-    → (n ≡ 0 → ⊥) → Fits x → x .extends < n → x .overlaps ≡ overlapsOf net earlier (chainAt l (x .extends) ++ (x .last-arc ∷ [])) → Holding net earlier (putRow l n x) (n + 1)
-holding-more {net} {earlier} {l} {n} x d hold room ne f low os =
-    let new = chain-new x d room f ne low in
-    let k : length earlier ≡ length (x .overlaps) = sym (ap length os ∙ length-overlapsOf net earlier (chainAt l (x .extends) ++ (x .last-arc ∷ []))) in
-    record {
-      few = hold .few;
-      overlaps = below-next n (λ i b. rw (chain-other x d i b) (overlaps-other l n x i b (length earlier) (hold .few) ∙ hold .overlaps i b))
-          (rw new (ap (overlapsAt (putRow l n x) n) k ∙ overlaps-same l n x room f ∙ os));
-    }

@@ -1,9 +1,13 @@
 // The fields of a label by its number. Callers never see offsets.
 ghost use mathlib.Core.Path.{_≡_};
+ghost use mathlib.Core.Logic.{_≢_};
 ghost use Prim.Native.Nat.{_+_, _*_, _≤_, _<_};
 ghost use lib.ListN.{length};
+ghost use Rattle.net.specs.Limits.{mostLabels};
 ghost use Rattle.labels.specs.Field.{labelBytes, headBytes, mostEarlier, putHead, puts};
 ghost use Rattle.labels.specs.Field.{lastArcAt, extendsAt, lengthAt, endAt, overlapAt};
+ghost use Rattle.labels.specs.Field.{farAt, depthAt, farOf, depthOf};
+ghost use Rattle.labels.specs.Standing.{Down, Jumping};
 
 // A label has its overlap with each of so many earlier routes.
 pub const MOST_EARLIER: usize = 7;
@@ -20,9 +24,13 @@ const LAST_ARC: usize = 0;
 
 const EXTENDS: usize = 4;
 
+const FAR: usize = 6;
+
 const LENGTH: usize = 8;
 
 const END: usize = 16;
+
+const DEPTH: usize = 18;
 
 pub fn last_arc(labels: &[u8], label: usize) -> u32
     requires { ⌜ label * labelBytes + labelBytes ≤ length (now labels) ⌝ }
@@ -49,7 +57,23 @@ pub fn end(labels: &[u8], label: usize) -> u32
     requires { ⌜ label * labelBytes + labelBytes ≤ length (now labels) ⌝ }
     ensures { λ r. ⌜ r ≡ endAt (now (labels .entry)) label ⌝ }
 {
-    words::number::read32(labels, label * LABEL + END)
+    words::number::read16(labels, label * LABEL + END) as u32
+}
+
+// A far ancestor: a lower label whose chain begins this one's.
+pub fn far(labels: &[u8], label: usize) -> u16
+    requires { ⌜ label * labelBytes + labelBytes ≤ length (now labels) ⌝ }
+    ensures { λ r. ⌜ r ≡ farAt (now (labels .entry)) label ⌝ }
+{
+    words::number::read16(labels, label * LABEL + FAR)
+}
+
+// How many arcs its chain has.
+pub fn depth(labels: &[u8], label: usize) -> u16
+    requires { ⌜ label * labelBytes + labelBytes ≤ length (now labels) ⌝ }
+    ensures { λ r. ⌜ r ≡ depthAt (now (labels .entry)) label ⌝ }
+{
+    words::number::read16(labels, label * LABEL + DEPTH)
 }
 
 // The overlap of its chain with the r-th earlier route, from 0.
@@ -60,17 +84,56 @@ pub fn overlap(labels: &[u8], label: usize, r: usize) -> u64
     words::number::read64(labels, label * LABEL + (HEAD + 8 * r))
 }
 
-// The label's head is made of the four.
-pub fn put_head(labels: &mut [u8], label: usize, arc: u32, extends: u16, len: u64, end: u32)
-    requires { ⌜ label * labelBytes + labelBytes ≤ length (now labels) ⌝ }
+// The far ancestor of a label behind those that there are, by the label that it extends.
+fn far_of(labels: &[u8], label: usize, extends: u16) -> u16
+    requires { ⌜ (Down (now labels) label) × (Jumping (now labels) label)
+        × (label ≢ 0 → extends < label) ⌝ }
+    ensures { λ r. ⌜ r ≡ farOf (now (labels .entry)) label extends ⌝ }
+{
+    if label == 0 {
+        return 0;
+    }
+    let next = far(labels, extends as usize);
+    let after = far(labels, next as usize);
+    let d = depth(labels, extends as usize);
+    let e = depth(labels, next as usize);
+    let f = depth(labels, after as usize);
+    if d - e == e - f {
+        return after;
+    }
+    extends
+}
+
+// How many arcs its chain has.
+fn depth_of(labels: &[u8], label: usize, extends: u16) -> u16
+    requires { ⌜ (Down (now labels) label) × (Jumping (now labels) label)
+        × (label ≢ 0 → extends < label) × (label < mostLabels) ⌝ }
+    ensures { λ r. ⌜ r ≡ depthOf (now (labels .entry)) label extends ⌝ }
+{
+    if label == 0 {
+        return 0;
+    }
+    depth(labels, extends as usize) + 1
+}
+
+// The head of a label behind those that there are is made of the four, and of what follows from
+// the label that it extends. Label 0 extends none.
+pub fn put_head(labels: &mut [u8], label: usize, arc: u32, extends: u16, len: u64, end: u16)
+    requires { ⌜ (label * labelBytes + labelBytes ≤ length (now labels))
+        × (Down (now labels) label) × (Jumping (now labels) label)
+        × (label ≢ 0 → extends < label) × (label < mostLabels) ⌝ }
     ensures { λ r. ⌜ now (labels .exit)
         ≡ putHead (now (labels .entry)) label arc extends len end ⌝ }
 {
+    let far = far_of(labels, label, extends);
+    let depth = depth_of(labels, label, extends);
     let at = label * LABEL;
     words::number::write32(labels, at + LAST_ARC, arc);
     words::number::write16(labels, at + EXTENDS, extends);
+    words::number::write16(labels, at + FAR, far);
     words::number::write64(labels, at + LENGTH, len);
-    words::number::write32(labels, at + END, end);
+    words::number::write16(labels, at + END, end);
+    words::number::write16(labels, at + DEPTH, depth);
 }
 
 // The label's overlaps, with as many earlier routes as there are.

@@ -13,7 +13,7 @@ use lib.Seq.{getD-at}
 use borrow.Author.Tests.{eqb-true, eqb-false}
 use Rattle.lists.specs.Tests.{upFrom}
 use Rattle.lists.proofs.IndexLaws.{take-replicate}
-use Rattle.net.specs.Net.{Arc, Net, arc}
+use Rattle.net.specs.Net.{Net, arc}
 use Rattle.net.specs.Route.{endOf, lengthOf, partial}
 use Rattle.net.specs.Round.{Query, counted, Ending, answered, unanswered, refused, ending}
 use Rattle.net.specs.Labels.{extend, labels}
@@ -32,9 +32,10 @@ use Rattle.net.proofs.Labels.{Closed, labels-more, upTo-closed}
 use Rattle.labels.specs.Field.{labelBytes, mostEarlier, noNumber, Row, putRow}
 use Rattle.labels.specs.Chain.{chainAt, chainsIn, labelsIn}
 use Rattle.labels.specs.Rows.{overlapsOf, rowOf, labelled}
-use Rattle.labels.specs.Standing.{Standing, Holding}
+use Rattle.labels.specs.Standing.{Comparable, Standing, Holding}
 use Rattle.labels.proofs.OverlapLaws.{length-overlapsOf, overlaps-most, overlaps-empty}
-use Rattle.labels.proofs.StoreLaws.{Fits, emptyRow, last-arc-same, length-putRow, chain-other, chains-first, chains-more, length-chainsIn, getD-chainsIn, labels-in-first, labels-in-more, fits-empty, standing-first, standing-more, holding-first, holding-more}
+use Rattle.labels.proofs.StoreLaws.{Fits, last-arc-same, length-putRow, chain-other, chains-first, chains-more, length-chainsIn, getD-chainsIn, labels-in-first, labels-in-more}
+use Rattle.labels.proofs.StandingLaws.{emptyRow, fits-empty, standing-none, standing-first, standing-more, holding-first, holding-more, comparable-increasing}
 use Rattle.labels.proofs.RowLaws.{labelled-first, labelled-more, labelled-none}
 use Rattle.search_ask.specs.Ask.{Points, chainOf, candidateIn, lastIn}
 use Rattle.search_ask.specs.declared.Candidate.{Candidate}
@@ -56,6 +57,12 @@ abbrev pub rowIn : Query → List (List ℕ) → List ℕ → Candidate → Row
 rowIn q earlier l c = rowFor (q .net .arcs) (q .s) l c (overlapsOf (q .net) earlier (chainOf l c))
 
 module _ (q : Query) (earlier : List (List ℕ)) (v : Valid q) (l : List ℕ) (x : State) (g : Going q earlier l x) where
+  inc : Increasing (guide q) (chainsIn l (x .n))
+  inc = subst (Increasing (guide q)) (sym (g .taken)) (upTo-increasing q earlier v (guide q) (lastIn l (x .last)))
+
+  pub going-comparable : Comparable l (x .n)
+  going-comparable = comparable-increasing (guide q) (g .standing) inc
+
   over : (e : Ending) → (ending q earlier ≡ e) × (take (q .room) (counted q earlier) ≡ chainsIn l (x .n)) → Over q earlier l (x .n) e
   over e w =
       record {
@@ -150,9 +157,6 @@ module _ (q : Query) (earlier : List (List ℕ)) (v : Valid q) (l : List ℕ) (x
         getD-label : getD (chainsIn l (x .n)) (c .label) [] ≡ chainAt l (c .label)
         getD-label = getD-chainsIn l (x .n) (c .label) label-below
 
-        inc : Increasing (guide q) (chainsIn l (x .n))
-        inc = subst (Increasing (guide q)) (sym (g .taken)) (upTo-increasing q earlier v (guide q) (lastIn l (x .last)))
-
         closed : Closed (chainsIn l (x .n))
         closed = subst Closed (sym (g .taken)) (upTo-closed q earlier v (guide q) (by-length (q .net) (q .s)) (lastIn l (x .last)))
 
@@ -242,18 +246,6 @@ zeros net earlier r few e =
     let n : r - 0 ≡ length earlier = omega arith in
     ap (λ k. take k (replicate mostEarlier 0)) n ∙ take-replicate (length earlier) mostEarlier 0 few ∙ sym (overlaps-empty net earlier)
 
-standing-none : (arcs : List Arc) (s : ℕ) (l : List ℕ) → Standing arcs s l 0
-standing-none arcs s l =
-    record {
-      down = record { room = omega arith; lower = λ i h. absurd (omega arith) };
-      few = omega arith;
-      is-arc = λ i h. absurd (omega arith);
-      lengths = λ i h. absurd (omega arith);
-      ends = λ i h. absurd (omega arith);
-      short = λ i h. absurd (omega arith);
-      most = λ i h. absurd (omega arith);
-    }
-
 module _ (q : Query) (earlier : List (List ℕ)) (v : Valid q) (few : length earlier ≤ mostEarlier) (l : List ℕ) where
   abbrev opened : List ℕ
   opened = putRow l 0 (emptyRow (q .net) (q .s) earlier)
@@ -270,7 +262,7 @@ module _ (q : Query) (earlier : List (List ℕ)) (v : Valid q) (few : length ear
         holds = sym (ends-held q earlier v (guide q) [] (w .1));
       }
 
-  pub begin-going : q .s < 2 ^ 32 → labelBytes ≤ length l → 1 ≤ q .room → q .s ≢ q .t → Going q earlier opened (record { n = 1; last = record { label = 0; arc = noNumber }; stage = 0 })
+  pub begin-going : q .s < 2 ^ 16 → labelBytes ≤ length l → 1 ≤ q .room → q .s ≢ q .t → Going q earlier opened (record { n = 1; last = record { label = 0; arc = noNumber }; stage = 0 })
   unfolding endOf labels
   begin-going s bytes room apart =
       record {
@@ -294,7 +286,7 @@ module _ (q : Query) (earlier : List (List ℕ)) (v : Valid q) (few : length ear
   pub begun-refused : q .room ≡ 0 → Searched q earlier l l (record { n = 0; last = record { label = 0; arc = noNumber }; stage = 3 })
   begun-refused e = record { long = refl; stage = begin-refused e; keeps = λ l₀ k. k }
 
-  pub begun-first : (l′ : List ℕ) → l′ ≡ opened → q .s < 2 ^ 32 → labelBytes ≤ length l → 1 ≤ q .room → q .s ≢ q .t
+  pub begun-first : (l′ : List ℕ) → l′ ≡ opened → q .s < 2 ^ 16 → labelBytes ≤ length l → 1 ≤ q .room → q .s ≢ q .t
       → Searched q earlier l l′ (record { n = 1; last = record { label = 0; arc = noNumber }; stage = 0 })
   begun-first l′ e s bytes room apart =
       subst (λ b. Searched q earlier l b (record { n = 1; last = record { label = 0; arc = noNumber }; stage = 0 })) (sym e)

@@ -43,7 +43,7 @@ fn take_up(table: &[u8], ask: Ask, labels: &mut [u8], n: usize, c: Candidate, ow
     let goal = ask.goal;
     let end = table::arc::to_of(table, arc);
     let len = search_order::length_of(table, ask, labels, n, c);
-    labels::field::put_head(labels, n, arc as u32, label as u16, len, end);
+    labels::field::put_head(labels, n, arc as u32, label as u16, len, end as u16);
     labels::field::put_overlaps(labels, n, own);
     State {
         n: n + 1,
@@ -133,7 +133,7 @@ fn begin(
     }
     let s = ask.s;
     let zeros = [0u64; labels::field::MOST_EARLIER];
-    labels::field::put_head(labels, 0, labels::field::NONE, 0, 0, s);
+    labels::field::put_head(labels, 0, labels::field::NONE, 0, 0, s as u16);
     labels::field::put_overlaps(labels, 0, &zeros[0..lens.len()]);
     State {
         n: 1,

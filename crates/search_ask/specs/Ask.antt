@@ -15,7 +15,7 @@ use Rattle.table.specs.Table.{records, arcsOf, netOf}
 use Rattle.table.specs.Fault.{tableFault, good}
 use Rattle.labels.specs.Field.{labelBytes, noNumber}
 use Rattle.labels.specs.Chain.{chainAt}
-use Rattle.labels.specs.Standing.{Standing}
+use Rattle.labels.specs.Standing.{Comparable, Standing}
 use Rattle.search_ask.specs.declared.Ask.{Ask}
 use Rattle.search_ask.specs.declared.Candidate.{Candidate}
 
@@ -45,10 +45,11 @@ pub record Accepted (ask : Ask) (table : List ℕ) : Type 0 where
   pub b-most : ask .b ≤ mostB
   pub a-below : ask .a < ask .b
 
--- A search goes on: its ask is accepted, and its first n labels stand.
+-- A search goes on: its ask is accepted, its first n labels stand, and no two of them stand for one chain.
 pub record Searching (ask : Ask) (table labels : List ℕ) (n : ℕ) : Type 0 where
   pub accepted : Accepted ask table
   pub standing : Standing (arcsOf table) (ask .s) labels n
+  pub comparable : Comparable labels n
 
 -- ---- candidates
 

@@ -9,12 +9,12 @@ ghost use Rattle.net.specs.Limits.{mostNodes};
 ghost use Rattle.net.specs.Route.{lengthOf, numbersFirst, precedes};
 ghost use Rattle.table.specs.Table.{arcsOf};
 ghost use Rattle.labels.specs.Chain.{chainAt};
-ghost use Rattle.labels.specs.Standing.{Down};
+ghost use Rattle.labels.specs.Standing.{Comparable};
 ghost use Rattle.search_ask.specs.Ask.{Searching, Among, chainOf};
 
 // Whether the arc numbers of label i's chain with arc a come before those of label j's with arc c.
 fn candidate_numbers_first(labels: &[u8], n: usize, i: usize, a: u32, j: usize, c: u32) -> bool
-    requires { ⌜ (Down (now labels) n) × (i < n) × (j < n)
+    requires { ⌜ (Comparable (now labels) n) × (i < n) × (j < n)
         × (length (chainAt (now labels) i) < mostNodes)
         × (length (chainAt (now labels) j) < mostNodes) ⌝ }
     ensures { λ r. ⌜ r ≡ numbersFirst (chainAt (now (labels .entry)) i ++ (a ∷ []))

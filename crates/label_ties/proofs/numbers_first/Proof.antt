@@ -21,15 +21,22 @@ left l = chainAt (start l .args .labels .now) (start l .args .i)
 abbrev right : tie.After-lower → List ℕ
 right l = chainAt (start l .args .labels .now) (start l .args .j)
 
+-- how many arcs they have
+left-many : (l : tie.After-lower) → l .before .before .depth .result ≡ length (left l)
+left-many l = let s = start l in l .before .before .depth .ensures ∙ s .pre .0 .jumping .depths (s .args .i) (s .pre .1)
+
+right-many : (l : tie.After-lower) → l .before .depth2 .result ≡ length (right l)
+right-many l = let s = start l in l .before .depth2 .ensures ∙ s .pre .0 .jumping .depths (s .args .j) (s .pre .2)
+
 -- the cut is within both chains, and at the end of one
 within-left : (l : tie.After-lower) → l .lower .result ≤ length (left l)
-within-left l = omega (arith, l .lower .ensures .0, l .before .before .arcs .ensures)
+within-left l = omega (arith, l .lower .ensures .0, left-many l)
 
 within-right : (l : tie.After-lower) → l .lower .result ≤ length (right l)
-within-right l = omega (arith, l .lower .ensures .1, l .before .arcs2 .ensures)
+within-right l = omega (arith, l .lower .ensures .1, right-many l)
 
 at-end : (l : tie.After-lower) → (l .lower .result ≡ length (left l)) ⊎ (l .lower .result ≡ length (right l))
-at-end l = ⊎-elim (λ w. inl (w ∙ l .before .before .arcs .ensures)) (λ w. inr (w ∙ l .before .arcs2 .ensures)) (l .lower .ensures .2)
+at-end l = ⊎-elim (λ w. inl (w ∙ left-many l)) (λ w. inr (w ∙ right-many l)) (l .lower .ensures .2)
 
 together-requires : tie.Need-together-requires
 together-requires c κs =
@@ -49,7 +56,7 @@ returns c =
     let l = x .before in
     c .together .ensures
     ∙ cut-together (left l) (right l) (l .lower .result) _ _ (within-left l) (within-right l) (x .climb .ensures .1) (y .climb2 .ensures .1)
-    (start l .args .a) (start l .args .c) _ _ _ _ _ (at-end l) (l .before .before .arcs .ensures) (l .before .arcs2 .ensures)
+    (start l .args .a) (start l .args .c) _ _ _ _ _ (at-end l) (left-many l) (right-many l)
     (x .climb .ensures .2) (y .climb2 .ensures .2) (c .before .decide .ensures)
 
 pub numbers-first-spec : {M : Type 1} → statement M
@@ -59,8 +66,8 @@ numbers-first-spec =
     (λ c κs. search needs)
     (λ c κs. search needs)
     (λ c κs. search needs)
-    (λ c κs. search needs)
-    (λ c κs. search needs)
+    (λ c κs. let s = start c in (s .pre .0 .down, s .pre .0 .jumping, s .pre .1, within-left c))
+    (λ c κs. let s = start (c .before) in (s .pre .0 .down, s .pre .0 .jumping, s .pre .2, within-right (c .before)))
     (λ c κs. search needs)
     together-requires
     returns)

@@ -1,5 +1,6 @@
--- Invariant: the chains of the labels reached have as many arcs, and with what was decided they compare as the chains asked for. A step takes the last arc off
--- both and lets those two decide before what came after them (`pair-back`). Where the labels meet the chains are one, and what was decided stands.
+-- Invariant: the chains of the labels reached have as many arcs, and with what was decided they compare as the chains asked for. Far ancestors that differ do so
+-- too (`pair-far`); a step takes the last arc off both and lets those two decide before what came after them (`pair-back`). Where the labels meet the chains are
+-- one, and what was decided stands.
 use mathlib.Core.Path.{_≡_, refl, sym, ap, _∙_}
 use Prim.Native.Nat.{_<_}
 use native.Mathlib.Omega.{arith}
@@ -8,7 +9,7 @@ use borrow.Author.Needs.{needs}
 use Rattle.labels.specs.Chain.{chainAt}
 use Rattle.label_ties.specs.Together.{together}
 use Rattle.label_ties.proofs.TogetherLaws.{together-same}
-use Rattle.label_ties.proofs.PairLaws.{pair-lower, pair-back}
+use Rattle.label_ties.proofs.PairLaws.{pair-lower, pair-back, pair-far-lower, pair-far}
 use Rattle.label_ties.proofs.together.Statement.{statement}
 use Rattle.label_ties.proofs.together.Tie as tie
 
@@ -22,23 +23,43 @@ abbrev μ-loop : tie.MeasureT-loop
 abbrev start : tie.At-loop Inv-loop μ-loop → tie.Start Inv-loop μ-loop
 start a = a .before .before
 
-abbrev stepped : tie.After-decide Inv-loop μ-loop → tie.After-extends Inv-loop μ-loop
-stepped c = c .before .before .before .before
-
 loop-less : tie.Need-loop-less Inv-loop μ-loop
 loop-less c =
-    let l = stepped c in
-    let a = l .before .before in
+    let f = c .before .before in
+    let a = f .before .before in
     let v = a .loop .inv in
-    omega (arith, l .extends .ensures, pair-lower (start a .pre .0) (a .loop .x) (a .loop .y) (v .0) (v .1) (v .2) (l .before .loop-test .taken))
+    omega (arith, f .far .ensures, pair-far-lower (start a .pre .0) (a .loop .x) (a .loop .y) (v .0) (v .1) (v .2) (f .before .loop-test .taken))
 
 loop-again : tie.Need-loop-again Inv-loop μ-loop
 loop-again c =
+    let f = c .before .before in
+    let a = f .before .before in
+    let v = a .loop .inv in
+    let w =
+    pair-far (start a .pre .0) (a .loop .x) (a .loop .y) (v .0) (v .1) (v .2) (f .before .loop-test .taken) _ _ (a .loop .r)
+    (f .far .ensures) (c .before .far2 .ensures) (c .if1 .taken) in
+    (w .0, w .1, w .2, w .3 ∙ v .3)
+
+abbrev stepped : tie.After-decide Inv-loop μ-loop → tie.After-extends Inv-loop μ-loop
+stepped c = c .before .before .before .before
+
+abbrev turned : tie.After-extends Inv-loop μ-loop → tie.In-loop Inv-loop μ-loop
+turned l = l .before .before .before .before
+
+loop-less-2 : tie.Need-loop-less-2 Inv-loop μ-loop
+loop-less-2 c =
     let l = stepped c in
-    let a = l .before .before in
+    let a = turned l .before in
+    let v = a .loop .inv in
+    omega (arith, l .extends .ensures, pair-lower (start a .pre .0) (a .loop .x) (a .loop .y) (v .0) (v .1) (v .2) (turned l .loop-test .taken))
+
+loop-again-2 : tie.Need-loop-again-2 Inv-loop μ-loop
+loop-again-2 c =
+    let l = stepped c in
+    let a = turned l .before in
     let v = a .loop .inv in
     let back =
-    pair-back (start a .pre .0) (a .loop .x) (a .loop .y) (v .0) (v .1) (v .2) (l .before .loop-test .taken) _ _ _ _ (a .loop .r) (c .decide .result)
+    pair-back (start a .pre .0) (a .loop .x) (a .loop .y) (v .0) (v .1) (v .2) (turned l .loop-test .taken) _ _ _ _ (a .loop .r) (c .decide .result)
     (l .extends .ensures) (c .before .before .before .extends2 .ensures) (c .before .before .last-arc .ensures) (c .before .last-arc2 .ensures) (c .decide .ensures) in
     (back .0, back .1, back .2, back .3 ∙ v .3)
 
@@ -56,13 +77,19 @@ together-spec =
     Inv-loop
     μ-loop
     (λ c. (c .before .pre .1, c .before .pre .2, c .before .pre .3, refl))
-    (λ c κs. search needs)
+    (λ c κs. omega (arith, start (c .before) .pre .0 .down .room))
     (λ c. search needs)
-    (λ c κs. search needs)
+    (λ c κs. omega (arith, start (c .before .before) .pre .0 .down .room))
     (λ c. search needs)
-    (λ c κs. search needs)
-    (λ c κs. search needs)
-    (λ c κs. search needs)
     loop-less
     loop-again
+    (λ c κs. omega (arith, start (c .before .before .before .before) .pre .0 .down .room))
+    (λ c. search needs)
+    (λ c κs. omega (arith, start (turned c .before) .pre .0 .down .room))
+    (λ c. search needs)
+    (λ c κs. omega (arith, start (turned (c .before) .before) .pre .0 .down .room))
+    (λ c κs. omega (arith, start (turned (c .before .before) .before) .pre .0 .down .room))
+    (λ c κs. search needs)
+    loop-less-2
+    loop-again-2
     returns)

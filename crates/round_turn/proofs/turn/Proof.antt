@@ -20,11 +20,11 @@ use Rattle.labels.specs.Field.{putRow}
 use Rattle.labels.specs.Rows.{overlapsOf}
 use Rattle.search_trial.specs.Trial.{Trying, passesAt}
 use Rattle.search_trial.proofs.TrialLaws.{measured, passes-here, overlaps-open, holding-open}
-use Rattle.search_ask.specs.Ask.{Among, netFor, queryFor, chainOf}
+use Rattle.search_ask.specs.Ask.{Searching, Among, netFor, queryFor, chainOf}
 use Rattle.search_ask.specs.Earlier.{earlierOf}
 use Rattle.search_ask.proofs.AskLaws.{accepted-valid, few-arcs, nodes-most, lengths-most}
 use Rattle.round_turn.specs.Stage.{rowFor, Turned}
-use Rattle.round_turn.proofs.TurnLaws.{Roomy, turned-none, turned-dropped, turned-refused, turned-taken}
+use Rattle.round_turn.proofs.TurnLaws.{Roomy, going-comparable, turned-none, turned-dropped, turned-refused, turned-taken}
 use Rattle.round_turn.proofs.turn.Statement.{statement}
 use Rattle.round_turn.proofs.turn.Tie as tie
 
@@ -39,6 +39,14 @@ earlier a = earlierOf (start a .args .ask) (start a .args .area .now) (start a .
 
 valid : (a : tie.After-next) → Valid (query a)
 valid a = accepted-valid (start a .pre .0 .accepted) (start a .args .closed .now) (start a .args .labels .now)
+
+searching : (s : tie.Start) → Searching (s .args .ask) (s .args .table .now) (s .args .labels .now) (s .args .x .n)
+searching s =
+    record {
+      accepted = s .pre .0 .accepted;
+      standing = s .pre .2 .standing;
+      comparable = going-comparable (queryFor (s .args .ask) (s .args .table .now) (s .args .closed .now) (s .args .labels .now)) (earlierOf (s .args .ask) (s .args .area .now) (s .args .lens .now)) (accepted-valid (s .pre .0 .accepted) (s .args .closed .now) (s .args .labels .now)) (s .args .labels .now) (s .args .x) (s .pre .2);
+    }
 
 -- ---- where there is a candidate
 
@@ -59,7 +67,7 @@ trying : (e : tie.Else1) → let s = start (looked e) in
 trying e =
     let s = start (looked e) in
     record {
-      searching = record { accepted = s .pre .0 .accepted; standing = s .pre .2 .standing };
+      searching = searching s;
       holding = holding-open (s .args .ask) (s .args .table .now) (s .args .closed .now) [] (s .pre .2 .holding);
       among = among e;
       slots = s .pre .0 .earlier .slots;
@@ -175,7 +183,7 @@ pub turn-spec : {M : Type 1} → statement M
 turn-spec =
     tie.close
     (tie.spec
-    (λ c κs. search needs)
+    (λ c κs. let s = c .before .before .before .before .before .before .before .before in record { searching = searching s; points = s .pre .2 .points })
     (λ c. search needs)
     returns
     (λ c. search needs)

@@ -30,7 +30,7 @@ candidate-numbers-first-requires c κs =
     let st = s .pre .0 .standing in
     let i = s .pre .1 .label-below in
     let j = s .pre .2 .label-below in
-    (st .down, i, j, st .short _ i, st .short _ j)
+    (s .pre .0 .comparable, i, j, st .short _ i, st .short _ j)
 
 returns-3 : tie.Need-returns-3
 returns-3 c =
