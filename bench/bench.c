@@ -1,12 +1,13 @@
-/* The library against the baseline: times by size, k and threshold; with road numbers beside zeros; growth of time with labels; times of a road file and of files of accepted plans; the stack that each
- * call needs.
+/* The library against two baselines in C, the plain one and the best one: times by size, k and threshold; with road numbers beside zeros; growth of time with labels;
+ * large queries; times of a road file and of files of accepted plans; the stack that each call needs.
  *
- *     bench [--quick]     --quick: only the rows of the smallest network, with three legs
+ *     bench [--quick | --large]     --quick: only drawn tables and the rows of the smallest network, with three legs; --large: the large queries to the library too
  *
- * Each query is put to both, and all their results are compared. Exits 1 if any differ, or if the library leaves a byte it should not. */
+ * Each query is put to all three, and all their results are compared. Exits 1 if any differ, or if the library leaves a byte it should not. */
 #define _POSIX_C_SOURCE 200809L
 
 #include "baseline.h"
+#include "best.h"
 #include "network.h"
 
 #include <inttypes.h>
@@ -24,15 +25,19 @@
 #define LEGS 10        /* of each row there */
 #define QUICK_LEGS 3
 #define ROOM 2048      /* labels lent in the first table, and for the stack */
-#define MOST_ROOM 4096 /* labels lent for the growth: as many as nodes at most */
+#define MOST_ROOM 4096 /* labels lent with and without road numbers */
 #define SHORT 0.02     /* seconds: a shorter call is repeated for as long */
+#define LONG 10        /* seconds: the library is left out of a row of the growth that would take longer */
+#define FITTED 256     /* nodes: a power of the growth is fitted to the networks from here on, beside that of all */
 #define TURNS 3        /* of each leg with and without road numbers */
+#define TRIALS 2000    /* drawn tables */
+#define QUICK_TRIALS 400
 
 #define JUNK 0xa5
 #define MARGIN 4 /* labels, words and summaries of junk on either side of what is lent */
 
 struct lent {
-    _Alignas(16) uint8_t labels[(MARGIN + MOST_ROOM + MARGIN) * OJEONBUT_LABEL];
+    _Alignas(16) uint8_t labels[(MARGIN + OJEONBUT_LABELS + MARGIN) * OJEONBUT_LABEL];
     uint32_t area[MARGIN + OJEONBUT_ROUTES * (OJEONBUT_NODES - 1) + MARGIN];
     ojeonbut_summary summaries[MARGIN + OJEONBUT_ROUTES + MARGIN];
 };
@@ -42,12 +47,14 @@ struct query {
     struct leg leg;
     uint32_t k, a, b;
     size_t room;
+    const uint8_t *closed; /* a byte for each arc, or NULL for the call without closures */
 };
 
 /* What the queries of a row add up to. */
 struct row {
     uint32_t queries;
-    double library, baseline;                 /* seconds */
+    double library, baseline, best;           /* seconds */
+    double left_out;                          /* 0, or where the library was not asked the seconds that it would take, INFINITY where nobody knows */
     uint64_t labels, rounds[OJEONBUT_ROUTES]; /* labels of all rounds, and of each */
     uint32_t ended[OJEONBUT_SIZE + 1];        /* how many queries had each outcome */
 };
@@ -56,11 +63,20 @@ struct size {
     uint32_t width, height, legs;
 };
 
-typedef ojeonbut_reply query_call(const uint8_t *, size_t, uint32_t, uint32_t, uint32_t, uint32_t, uint32_t, uint32_t, uint8_t *, size_t, uint32_t *, size_t,
-                                  ojeonbut_summary *, size_t);
+/* The two calls of a search. */
+struct search {
+    ojeonbut_reply (*query)(const uint8_t *, size_t, uint32_t, uint32_t, uint32_t, uint32_t, uint32_t, uint32_t, uint8_t *, size_t, uint32_t *, size_t, ojeonbut_summary *,
+                            size_t);
+    ojeonbut_reply (*query_closed)(const uint8_t *, size_t, uint32_t, uint32_t, uint32_t, uint32_t, uint32_t, uint32_t, const uint8_t *, size_t, uint8_t *, size_t,
+                                   uint32_t *, size_t, ojeonbut_summary *, size_t);
+};
+
+static const struct search library_search = {ojeonbut_query, ojeonbut_query_closed};
+static const struct search baseline_search = {baseline_query, baseline_query_closed};
+static const struct search best_search = {best_query, best_query_closed};
 
 static struct network net, numbered;
-static struct lent of_library, of_baseline;
+static struct lent of_library, of_baseline, of_best;
 static uint32_t queries, agreed;
 
 static double seconds(void)
@@ -70,9 +86,9 @@ static double seconds(void)
     return (double)t.tv_sec + (double)t.tv_nsec / 1e9;
 }
 
-static void make(struct network *n, uint32_t width, uint32_t height, uint32_t longest)
+/* Ends the program where the library refuses the network. */
+static void check(const struct network *n)
 {
-    network_make(n, width, height, longest, SEED);
     ojeonbut_reply reply = ojeonbut_check(n->table, n->bytes, n->nodes);
     if (reply.outcome != OJEONBUT_FOUND) {
         printf("the network of %" PRIu32 " nodes is refused: outcome %" PRIu32 ", record %" PRIu32 "\n", n->nodes, reply.outcome, reply.number);
@@ -80,30 +96,47 @@ static void make(struct network *n, uint32_t width, uint32_t height, uint32_t lo
     }
 }
 
-/* Exactly what the answer needs is lent, out of the middle of m. */
-static ojeonbut_reply ask(query_call *call, const struct query *q, struct lent *m)
+static void make(struct network *n, uint32_t width, uint32_t height, uint32_t longest)
 {
-    return call(q->net->table, q->net->bytes, q->net->nodes, q->leg.start, q->leg.goal, q->k, q->a, q->b, m->labels + MARGIN * OJEONBUT_LABEL,
-                q->room * OJEONBUT_LABEL, m->area + MARGIN, q->k * (q->net->nodes - 1), m->summaries + MARGIN, q->k);
+    network_make(n, width, height, longest, SEED);
+    check(n);
 }
 
-static double timed(query_call *call, const struct query *q, struct lent *m, ojeonbut_reply *reply)
+/* Exactly what the answer needs is lent, out of the middle of m. */
+static ojeonbut_reply ask(const struct search *search, const struct query *q, struct lent *m)
 {
-    memset(m, JUNK, sizeof *m);
+    const struct network *n = q->net;
+    uint8_t *labels = m->labels + MARGIN * OJEONBUT_LABEL;
+    size_t label_bytes = q->room * OJEONBUT_LABEL, words = q->k * (n->nodes - 1);
+    if (!q->closed)
+        return search->query(n->table, n->bytes, n->nodes, q->leg.start, q->leg.goal, q->k, q->a, q->b, labels, label_bytes, m->area + MARGIN, words, m->summaries + MARGIN,
+                             q->k);
+    return search->query_closed(n->table, n->bytes, n->nodes, q->leg.start, q->leg.goal, q->k, q->a, q->b, q->closed, n->bytes / OJEONBUT_RECORD, labels, label_bytes,
+                                m->area + MARGIN, words, m->summaries + MARGIN, q->k);
+}
+
+/* The bytes of m that the query is lent as labels, with those on either side. */
+static size_t bytes_of_labels(const struct query *q) { return (MARGIN + q->room + MARGIN) * OJEONBUT_LABEL; }
+
+static double timed(const struct search *search, const struct query *q, struct lent *m, ojeonbut_reply *reply)
+{
+    memset(m->labels, JUNK, bytes_of_labels(q));
+    memset(m->area, JUNK, sizeof m->area);
+    memset(m->summaries, JUNK, sizeof m->summaries);
     double begin = seconds();
-    *reply = ask(call, q, m);
+    *reply = ask(search, q, m);
     return seconds() - begin;
 }
 
 /* The seconds of a call: those of the first, or the mean of repeats where it was short. */
-static double settled(query_call *call, const struct query *q, struct lent *m, double first)
+static double settled(const struct search *search, const struct query *q, struct lent *m, double first)
 {
     if (first >= SHORT)
         return first;
     uint32_t turns = 0;
     double begin = seconds(), passed;
     do {
-        ask(call, q, m);
+        ask(search, q, m);
         turns++;
         passed = seconds() - begin;
     } while (passed < SHORT);
@@ -117,21 +150,30 @@ static bool only(const void *p, const void *e, uint8_t v)
     return n == 0 || (*(const uint8_t *)p == v && memcmp(p, (const uint8_t *)p + 1, n - 1) == 0);
 }
 
+/* What differs between the results in m and the plain baseline's, or NULL. */
+static const char *other_result(const struct query *q, ojeonbut_reply reply, const struct lent *m, ojeonbut_reply baseline)
+{
+    if (reply.outcome != baseline.outcome || reply.number != baseline.number)
+        return "outcome or number";
+    if (memcmp(m->area + MARGIN, of_baseline.area + MARGIN, q->k * (q->net->nodes - 1) * sizeof *m->area) != 0)
+        return "words of the slots";
+    if (memcmp(m->summaries + MARGIN, of_baseline.summaries + MARGIN, q->k * sizeof *m->summaries) != 0)
+        return "summaries";
+    return NULL;
+}
+
 /* What is wrong with the library's results, or NULL. */
 static const char *difference(const struct query *q, ojeonbut_reply library, ojeonbut_reply baseline)
 {
     const struct lent *m = &of_library;
     size_t words = q->k * (q->net->nodes - 1);
     const uint8_t *labels = m->labels + MARGIN * OJEONBUT_LABEL, *labels_end = labels + q->room * OJEONBUT_LABEL;
-    if (library.outcome != baseline.outcome || library.number != baseline.number)
-        return "outcome or number";
-    if (memcmp(m->area + MARGIN, of_baseline.area + MARGIN, words * sizeof *m->area) != 0)
-        return "words of the slots";
-    if (memcmp(m->summaries + MARGIN, of_baseline.summaries + MARGIN, q->k * sizeof *m->summaries) != 0)
-        return "summaries";
+    const char *other = other_result(q, library, m, baseline);
+    if (other)
+        return other;
     if (!only(labels, labels_end, 0))
         return "labels not all zero afterwards";
-    if (!only(m->labels, labels, JUNK) || !only(labels_end, m->labels + sizeof m->labels, JUNK))
+    if (!only(m->labels, labels, JUNK) || !only(labels_end, m->labels + bytes_of_labels(q), JUNK))
         return "bytes before or after the labels";
     if (!only(m->area, m->area + MARGIN, JUNK) || !only(m->area + MARGIN + words, (const uint8_t *)m->area + sizeof m->area, JUNK))
         return "words before or after the slots";
@@ -158,49 +200,72 @@ static void print_results(const char *name, const struct query *q, ojeonbut_repl
     }
 }
 
-/* Counts the query, and prints the first that differs. */
-static void compare(const struct query *q, ojeonbut_reply library, ojeonbut_reply baseline)
+/* Counts the query, and prints the first that differs. `library` is NULL where it was not asked. */
+static void compare(const struct query *q, const ojeonbut_reply *library, ojeonbut_reply baseline, ojeonbut_reply best)
 {
-    const char *what = difference(q, library, baseline);
+    const char *what = library ? difference(q, *library, baseline) : NULL, *of_c = other_result(q, best, &of_best, baseline);
     bool first = queries == agreed;
     queries++;
-    agreed += !what;
-    if (!what || !first)
+    agreed += !what && !of_c;
+    if ((!what && !of_c) || !first)
         return;
-    printf("the first difference: %s\n", what);
+    printf("the first difference: %s: %s\n", what ? "library and plain C" : "best C and plain C", what ? what : of_c);
     printf("  network %" PRIu32 " x %" PRIu32 ", start %" PRIu32 ", goal %" PRIu32 ", k %" PRIu32 ", threshold %" PRIu32 "/%" PRIu32 ", room %zu\n", q->net->width,
            q->net->height, q->leg.start, q->leg.goal, q->k, q->a, q->b, q->room);
-    print_results("library", q, library, &of_library);
-    print_results("baseline", q, baseline, &of_baseline);
+    if (library)
+        print_results("library", q, *library, &of_library);
+    print_results("plain C", q, baseline, &of_baseline);
+    print_results("best C", q, best, &of_best);
 }
 
-static void measure(const struct query *q, struct row *row)
+/* Puts the query to all three, or to the baselines only, and adds it to the row. */
+static void measure_with(const struct query *q, struct row *row, bool with_library)
 {
-    ojeonbut_reply library, baseline;
-    double library_first = timed(ojeonbut_query, q, &of_library, &library);
-    double baseline_first = timed(baseline_query, q, &of_baseline, &baseline);
-    compare(q, library, baseline);
+    ojeonbut_reply library, baseline, best;
+    double library_first = with_library ? timed(&library_search, q, &of_library, &library) : 0;
+    double baseline_first = timed(&baseline_search, q, &of_baseline, &baseline);
+    double best_first = timed(&best_search, q, &of_best, &best);
+    compare(q, with_library ? &library : NULL, baseline, best);
     row->queries++;
     row->ended[baseline.outcome]++;
     for (uint32_t r = 0; r < q->k; r++) {
         row->rounds[r] += of_baseline.summaries[MARGIN + r].labels;
         row->labels += of_baseline.summaries[MARGIN + r].labels;
     }
-    row->library += settled(ojeonbut_query, q, &of_library, library_first);
-    row->baseline += settled(baseline_query, q, &of_baseline, baseline_first);
+    if (with_library)
+        row->library += settled(&library_search, q, &of_library, library_first);
+    row->baseline += settled(&baseline_search, q, &of_baseline, baseline_first);
+    row->best += settled(&best_search, q, &of_best, best_first);
+}
+
+static void measure(const struct query *q, struct row *row) { measure_with(q, row, true); }
+
+/* The time of a baseline, and how many times as long the library takes. */
+static void print_baseline(const struct row *row, double of_baseline)
+{
+    printf(" %12.3f %9.3f", of_baseline / row->queries * 1e3, of_baseline / (double)row->labels * 1e6);
+    if (row->left_out > 0)
+        printf(" %8s", "-");
+    else
+        printf(" %8.2f", row->library / of_baseline);
 }
 
 static void print_times(const struct row *row)
 {
-    printf(" %12.3f %10.2f %12.3f %10.3f %9.1f\n", row->library / row->queries * 1e3, row->library / (double)row->labels * 1e6,
-           row->baseline / row->queries * 1e3, row->baseline / (double)row->labels * 1e6, row->library / row->baseline);
+    if (row->left_out > 0)
+        printf(" %12s %9s", "-", "-");
+    else
+        printf(" %12.3f %9.3f", row->library / row->queries * 1e3, row->library / (double)row->labels * 1e6);
+    print_baseline(row, row->baseline);
+    print_baseline(row, row->best);
+    printf("\n");
     if (row->ended[OJEONBUT_FOUND] < row->queries)
         printf("       outcomes of the row above: 0 in %" PRIu32 ", 1 in %" PRIu32 ", 11 in %" PRIu32 "\n", row->ended[OJEONBUT_FOUND], row->ended[OJEONBUT_FEWER],
                row->ended[OJEONBUT_ROOM]);
     fflush(stdout);
 }
 
-#define TIMES "   library ms   us/label  baseline ms   us/label     ratio\n"
+#define TIMES "   library ms  us/label     plain ms  us/label    ratio      best ms  us/label    ratio\n"
 
 static void rows_of(uint32_t width, uint32_t height, uint32_t legs)
 {
@@ -231,7 +296,7 @@ static void table_of_rows(bool quick)
 {
     uint32_t legs = quick ? QUICK_LEGS : LEGS;
     printf("\nTimes. Legs of %d + %d blocks in every network, %" PRIu32 " to a row; room for %d labels. Labels: the mean of each round over the legs, a round not\n"
-           "begun as 0. ms: milliseconds of a query; us/label: microseconds for each label of all its rounds; ratio: library over baseline.\n"
+           "begun as 0. ms: milliseconds of a query; us/label: microseconds for each label of all its rounds; ratio: the library's time over that of the plain, or the best, C.\n"
            " nodes  k  a/b   round 1 round 2 round 3 round 4" TIMES,
            BLOCKS, BLOCKS, legs, ROOM);
     rows_of(16, 16, legs);
@@ -257,11 +322,11 @@ static bool same_answers(const struct query *q, const struct lent *m)
 static void row_of_numbers(uint32_t legs, uint32_t across, uint32_t down, uint32_t k)
 {
     struct query q[2] = {{.net = &net, .k = k, .a = 1, .b = 2, .room = MOST_ROOM}, {.net = &numbered, .k = k, .a = 1, .b = 2, .room = MOST_ROOM}};
-    double library[2] = {0}, baseline[2] = {0}, labels[2] = {0};
+    double library[2] = {0}, baseline[2] = {0}, best[2] = {0}, labels[2] = {0};
     uint64_t seed = net.nodes;
     uint32_t other = 0;
     for (uint32_t i = 0; i < legs; i++) {
-        struct row least[2] = {{.library = INFINITY, .baseline = INFINITY}, {.library = INFINITY, .baseline = INFINITY}};
+        struct row least[2] = {{.library = INFINITY, .baseline = INFINITY, .best = INFINITY}, {.library = INFINITY, .baseline = INFINITY, .best = INFINITY}};
         bool same = true;
         q[0].leg = q[1].leg = network_leg(&net, across, down, &seed);
         for (int turn = 0; turn < 2 * TURNS; turn++) {
@@ -270,17 +335,20 @@ static void row_of_numbers(uint32_t legs, uint32_t across, uint32_t down, uint32
             same = same_answers(&q[turn % 2], &of_library);
             of->library = fmin(of->library, row.library);
             of->baseline = fmin(of->baseline, row.baseline);
+            of->best = fmin(of->best, row.best);
             of->labels = row.labels;
         }
         other += !same;
         for (int n = 0; n < 2; n++) {
             library[n] += least[n].library / legs * 1e3;
             baseline[n] += least[n].baseline / legs * 1e3;
+            best[n] += least[n].best / legs * 1e3;
             labels[n] += (double)least[n].labels / legs;
         }
     }
-    printf("%6" PRIu32 " %2" PRIu32 " %3" PRIu32 " + %-3" PRIu32 " %4" PRIu32 " %6" PRIu32 " %8.1f %8.1f %11.3f %11.3f %6.2f %11.3f %11.3f %6.2f\n", net.nodes, k, across, down, legs, other,
-           labels[0], labels[1], library[0], library[1], library[1] / library[0], baseline[0], baseline[1], baseline[1] / baseline[0]);
+    printf("%6" PRIu32 " %2" PRIu32 " %3" PRIu32 " + %-3" PRIu32 " %4" PRIu32 " %6" PRIu32 " %8.1f %8.1f %11.3f %11.3f %6.2f %11.3f %11.3f %6.2f %11.3f %11.3f %6.2f\n", net.nodes, k, across, down, legs, other,
+           labels[0], labels[1], library[0], library[1], library[1] / library[0], baseline[0], baseline[1], baseline[1] / baseline[0], best[0],
+           best[1], best[1] / best[0]);
     fflush(stdout);
 }
 
@@ -295,8 +363,9 @@ static void table_of_numbers(bool quick)
 {
     printf("\nRoad numbers. The same legs over a network of zeros and over the same one with a road number for each street, one for both directions; 1/2, room for %d labels.\n"
            "Other: in how many legs an answer or a label count is another. Labels: the mean of a query, all rounds. Ratio: with road numbers over with zeros.\n"
-           "%48s %30s %30s\n nodes  k    blocks legs  other    zeros  numbers       zeros     numbers  ratio       zeros     numbers  ratio\n",
-           MOST_ROOM, "labels", "library ms", "baseline ms");
+           "%48s %30s %30s %30s\n"
+           " nodes  k    blocks legs  other    zeros  numbers       zeros     numbers  ratio       zeros     numbers  ratio       zeros     numbers  ratio\n",
+           MOST_ROOM, "labels", "library ms", "plain ms", "best ms");
     for (uint32_t side = 16; side <= (quick ? 16 : 64); side *= 2) {
         make_both(side, side);
         for (uint32_t k = 2; k <= 4; k += 2)
@@ -321,40 +390,198 @@ static double slope(const double *x, const double *y, size_t n)
     return ((double)n * sxy - sx * sy) / ((double)n * sxx - sx * sx);
 }
 
-/* The rows of the n first sizes, and the powers fitted to them. */
+/* The points of one search that a power is fitted to: logarithms of labels and of seconds. */
+struct points {
+    double labels[16], time[16];
+    size_t n;
+};
+
+/* Those of the three. */
+struct fit {
+    struct points library, baseline, best;
+};
+
+static void add_point(struct points *p, const struct row *row, double time)
+{
+    p->labels[p->n] = log((double)row->labels / row->queries);
+    p->time[p->n++] = log(time / row->queries);
+}
+
+static void add_row(struct fit *fit, const struct row *row)
+{
+    if (row->left_out == 0)
+        add_point(&fit->library, row, row->library);
+    add_point(&fit->baseline, row, row->baseline);
+    add_point(&fit->best, row, row->best);
+}
+
+static void print_power(const char *name, const struct points *p)
+{
+    if (p->n < 2)
+        printf("%s -", name);
+    else
+        printf("%s %.2f", name, slope(p->labels, p->time, p->n));
+    printf(" (%zu row%s)", p->n, p->n == 1 ? "" : "s");
+}
+
+static void print_powers(const char *rows, const struct fit *fit)
+{
+    printf("    %s: ", rows);
+    print_power("library", &fit->library);
+    print_power(", plain", &fit->baseline);
+    print_power(", best", &fit->best);
+    printf("\n");
+}
+
+/* The labels of a query, all rounds, by the best C. */
+static double labels_of(const struct query *q)
+{
+    double labels = 0;
+    ask(&best_search, q, &of_best);
+    for (uint32_t r = 0; r < q->k; r++)
+        labels += (double)of_best.summaries[MARGIN + r].labels;
+    return labels;
+}
+
+/* The row of one size: legs from a corner to the opposite one. `before` is the last row that the library was asked for, or has no queries. */
+static struct row row_of_growth(const struct size *size, struct query *q, const struct row *before)
+{
+    struct row row = {0};
+    struct leg legs[8];
+    double labels = 0;
+    uint64_t seed = net.nodes;
+    for (uint32_t i = 0; i < size->legs; i++) {
+        q->leg = legs[i] = network_leg(&net, net.width - 1, net.height - 1, &seed);
+        labels += labels_of(q);
+    }
+    if (before->queries > 0) {
+        double expected = before->library / before->queries * size->legs * pow(labels / size->legs / ((double)before->labels / before->queries), 2.5);
+        row.left_out = expected > LONG ? expected : 0;
+    }
+    for (uint32_t i = 0; i < size->legs; i++) {
+        q->leg = legs[i];
+        measure_with(q, &row, row.left_out == 0);
+    }
+    return row;
+}
+
+/* The rows of the sizes, and the powers fitted to them. */
 static void growth(const struct size *sizes, size_t n, uint32_t k, uint32_t a, uint32_t b)
 {
-    double labels[16], library[16], baseline[16];
+    struct fit all = {0}, large = {0};
+    struct row before = {0};
     for (size_t i = 0; i < n; i++) {
         make(&net, sizes[i].width, sizes[i].height, LONGEST);
-        struct query q = {.net = &net, .k = k, .a = a, .b = b, .room = MOST_ROOM};
-        struct row row = {0};
-        uint64_t seed = net.nodes;
-        for (uint32_t l = 0; l < sizes[i].legs; l++) {
-            q.leg = network_leg(&net, net.width - 1, net.height - 1, &seed);
-            measure(&q, &row);
-        }
+        struct query q = {.net = &net, .k = k, .a = a, .b = b, .room = OJEONBUT_LABELS};
+        struct row row = row_of_growth(&sizes[i], &q, &before);
         printf("%6" PRIu32 " %6zu %2" PRIu32 " %3" PRIu32 "/%-2" PRIu32 " %5" PRIu32 " %8.1f", net.nodes, net.bytes / OJEONBUT_RECORD, k, a, b, row.queries,
                (double)row.labels / row.queries);
         print_times(&row);
-        labels[i] = log((double)row.labels / row.queries);
-        library[i] = log(row.library / row.queries);
-        baseline[i] = log(row.baseline / row.queries);
+        if (row.left_out > 0)
+            printf("       the library is left out of the row above: it would take about %.0f s, by labels to the power 2.5 from the last row that it has\n", row.left_out);
+        else
+            before = row;
+        add_row(&all, &row);
+        if (net.nodes >= FITTED)
+            add_row(&large, &row);
     }
-    printf("  k = %" PRIu32 ": the library's time grows as labels to the power %.2f, the baseline's as labels to the power %.2f\n", k, slope(labels, library, n),
-           slope(labels, baseline, n));
+    printf("  k = %" PRIu32 ": the time grows as labels to the power\n", k);
+    print_powers("all rows", &all);
+    print_powers("from 256 nodes on", &large);
     fflush(stdout);
+}
+
+/* The milliseconds that it takes to clear the greatest label buffer, as the library does and the baselines do not. */
+static double clearing_ms(void)
+{
+    double begin = seconds();
+    for (int i = 0; i < 16; i++) {
+        memset(of_library.labels, 0, sizeof of_library.labels);
+        __asm__ volatile("" : : "r"(of_library.labels) : "memory");
+    }
+    return (seconds() - begin) / 16 * 1e3;
 }
 
 static void table_of_growth(void)
 {
     static const struct size sizes[] = {{8, 8, 3}, {16, 8, 3}, {16, 16, 3}, {32, 16, 3}, {32, 32, 3}, {64, 32, 2}, {64, 64, 1}};
     printf("\nGrowth. Legs across the network, from a corner to the opposite one; room for %d labels. Labels: the mean of a query, all rounds. The power is the\n"
-           "slope of the least-squares line through the logarithms of the rows' labels and times.\n"
+           "slope of the least-squares line through the logarithms of the rows' labels and times. The library's time holds the clearing of all labels lent, which memset\n"
+           "does in %.3f ms; the baselines leave them as they are. Of a row that would take over %d seconds the library is left out.\n"
            " nodes   arcs  k  a/b   legs   labels" TIMES,
-           MOST_ROOM);
+           OJEONBUT_LABELS, clearing_ms(), LONG);
     growth(sizes, sizeof sizes / sizeof *sizes, 1, 1, 2);
-    growth(sizes, 3, 2, 1, 2);
+    growth(sizes, sizeof sizes / sizeof *sizes, 2, 1, 2);
+}
+
+static void row_of_large(const char *name, const struct query *q, bool with_library)
+{
+    struct row row = {.left_out = with_library ? 0 : INFINITY};
+    measure_with(q, &row, with_library);
+    printf("%-52s %6" PRIu32 " %6zu %2" PRIu32 " %8" PRIu64, name, net.nodes, net.bytes / OJEONBUT_RECORD, q->k, row.labels);
+    print_times(&row);
+}
+
+/* A fan with a goal that no arc leads to, so that every arc is looked at. */
+static void row_of_fan(const char *name, uint32_t ends, uint32_t longest, bool with_library)
+{
+    network_fan(&net, OJEONBUT_ARCS, ends, longest, SEED);
+    check(&net);
+    struct query q = {.net = &net, .leg = {0, net.nodes - 1}, .k = 1, .a = 1, .b = 2, .room = OJEONBUT_LABELS};
+    row_of_large(name, &q, with_library);
+}
+
+static void table_of_large(bool with_library)
+{
+    printf("\nLarge queries, 1/2, room for %d labels. %s\n"
+           "%-52s  nodes   arcs  k   labels" TIMES,
+           OJEONBUT_LABELS, with_library ? "Once each, however long." : "The library is left out, since it may take minutes: --large asks it too.", "");
+    make(&net, 64, 64, LONGEST);
+    uint64_t seed = net.nodes;
+    struct query q = {.net = &net, .leg = network_leg(&net, net.width - 1, net.height - 1, &seed), .k = 2, .a = 1, .b = 2, .room = OJEONBUT_LABELS};
+    row_of_large("64 x 64, from a corner to the opposite one", &q, with_library);
+    row_of_fan("a node's arcs, all to one, of equal length", 1, 1, with_library);
+    row_of_fan("a node's arcs, all to one, lengths drawn", 1, LONGEST, with_library);
+    row_of_fan("a node's arcs, to as many as may be, of equal length", OJEONBUT_NODES - 2, 1, with_library);
+    row_of_fan("a node's arcs, to as many as may be, lengths drawn", OJEONBUT_NODES - 2, LONGEST, with_library);
+}
+
+/* A drawn query over a drawn small table with many ties, roads of several arcs and closed arcs, in a room that may be too small. */
+static void trial(uint64_t *seed, struct row *row)
+{
+    static uint8_t closed[OJEONBUT_ARCS];
+    uint32_t nodes = 2 + network_draw(seed, 10), longest = 1 + network_draw(seed, 4), roads = network_draw(seed, 2) ? network_draw(seed, 20) : 0;
+    network_scatter(&net, nodes, 6, longest, roads, seed);
+    check(&net);
+    struct query q = {.net = &net};
+    q.k = 1 + network_draw(seed, OJEONBUT_ROUTES);
+    q.b = 1 + network_draw(seed, 10);
+    q.a = network_draw(seed, q.b);
+    q.room = network_draw(seed, 3) ? 500 : network_draw(seed, 40);
+    q.leg.start = network_draw(seed, nodes);
+    q.leg.goal = (q.leg.start + 1 + network_draw(seed, nodes - 1)) % nodes;
+    if (network_draw(seed, 2)) {
+        for (size_t i = 0; i < net.bytes / OJEONBUT_RECORD; i++)
+            closed[i] = network_draw(seed, 6) == 0;
+        q.closed = closed;
+    }
+    ojeonbut_reply library, baseline, best;
+    timed(&library_search, &q, &of_library, &library);
+    timed(&baseline_search, &q, &of_baseline, &baseline);
+    timed(&best_search, &q, &of_best, &best);
+    compare(&q, &library, baseline, best);
+    row->ended[baseline.outcome]++;
+}
+
+static void trials(uint32_t n)
+{
+    struct row row = {0};
+    uint64_t seed = SEED;
+    for (uint32_t i = 0; i < n; i++)
+        trial(&seed, &row);
+    printf("\n%" PRIu32 " queries over drawn small tables, with ties, road numbers and closures: outcome 0 in %" PRIu32 ", 1 in %" PRIu32 ", 11 in %" PRIu32 "\n", n,
+           row.ended[OJEONBUT_FOUND], row.ended[OJEONBUT_FEWER], row.ended[OJEONBUT_ROOM]);
+    fflush(stdout);
 }
 
 #define STACK 1048576 /* bytes of the painted stack */
@@ -369,7 +596,7 @@ static ojeonbut_reply answered;
 static void work_nothing(void) {}
 static void work_check(void) { answered = ojeonbut_check(net.table, net.bytes, net.nodes); }
 static void work_arcs_from(void) { answered.number = ojeonbut_arcs_from(net.table, net.bytes, net.nodes, net.nodes / 2).bytes; }
-static void work_query(void) { answered = ask(ojeonbut_query, asked, &of_library); }
+static void work_query(void) { answered = ask(&library_search, asked, &of_library); }
 
 /* The same query with ratios, no road closed. */
 static void work_ratios(void)
@@ -434,10 +661,12 @@ static void stack_of_query(uint32_t longest)
     asked = &q;
     memset(&of_library, JUNK, sizeof of_library);
     memset(&of_baseline, JUNK, sizeof of_baseline);
+    memset(&of_best, JUNK, sizeof of_best);
     size_t with_ratios = stack_of(work_ratios);
     memset(&of_library, JUNK, sizeof of_library);
     size_t bytes = stack_of(work_query);
-    compare(&q, answered, ask(baseline_query, &q, &of_baseline));
+    ojeonbut_reply baseline = ask(&baseline_search, &q, &of_baseline), best = ask(&best_search, &q, &of_best);
+    compare(&q, &answered, baseline, best);
     uint64_t labels = 0;
     for (uint32_t r = 0; r < q.k; r++)
         labels += of_baseline.summaries[MARGIN + r].labels;
@@ -645,9 +874,9 @@ static void table_of_stack(void)
 
 int main(int argc, char **argv)
 {
-    bool quick = argc == 2 && strcmp(argv[1], "--quick") == 0;
-    if (argc > 1 && !quick) {
-        fprintf(stderr, "usage: bench [--quick]\n");
+    bool quick = argc == 2 && strcmp(argv[1], "--quick") == 0, large = argc == 2 && strcmp(argv[1], "--large") == 0;
+    if (argc > 1 && !quick && !large) {
+        fprintf(stderr, "usage: bench [--quick | --large]\n");
         return 2;
     }
     const char *emulated = getenv("OJEONBUT_EMULATED");
@@ -655,12 +884,14 @@ int main(int argc, char **argv)
         printf("Ran under an emulator: the times are the emulator's, and a ratio is only a hint.\n");
     else
         printf("Ran without an emulator, as far as told: OJEONBUT_EMULATED is not 1.\n");
-    printf("Library and baseline, the same queries. Networks: a city grid with about one street in ten missing, lengths from 1 to %d, drawn from seed %d.\n",
+    printf("Library, plain C and best C (bench/baseline.c, bench/best.c), the same queries. Networks: a city grid with about one street in ten missing, lengths from 1 to %d, drawn from seed %d.\n",
            LONGEST, SEED);
+    trials(quick ? QUICK_TRIALS : TRIALS);
     table_of_rows(quick);
     table_of_numbers(quick);
     if (!quick) {
         table_of_growth();
+        table_of_large(large);
         table_of_roads();
         table_of_plans();
         table_of_stack();

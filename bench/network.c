@@ -3,8 +3,8 @@
 #include <stdbool.h>
 #include <string.h>
 
-/* A number from 0 to n - 1: the generator adds a constant to the seed and mixes the bits of the sum (splitmix64). */
-static uint32_t draw(uint64_t *seed, uint32_t n)
+/* The generator adds a constant to the seed and mixes the bits of the sum (splitmix64). */
+uint32_t network_draw(uint64_t *seed, uint32_t n)
 {
     uint64_t z = *seed += 0x9e3779b97f4a7c15u;
     z = (z ^ z >> 30) * 0xbf58476d1ce4e5b9u;
@@ -39,18 +39,18 @@ void network_make(struct network *net, uint32_t width, uint32_t height, uint32_t
     net->height = height;
     net->nodes = width * height;
     for (uint32_t v = 0; v < net->nodes; v++) {
-        east[v] = draw(&seed, 10) > 0 && v % width < width - 1;
-        south[v] = draw(&seed, 10) > 0 && v / width < height - 1;
+        east[v] = network_draw(&seed, 10) > 0 && v % width < width - 1;
+        south[v] = network_draw(&seed, 10) > 0 && v / width < height - 1;
     }
     for (uint32_t v = 0; v < net->nodes; v++) {
         if (v >= width && south[v - width])
-            add_arc(net, v, v - width, 1 + draw(&seed, longest));
+            add_arc(net, v, v - width, 1 + network_draw(&seed, longest));
         if (v >= 1 && east[v - 1])
-            add_arc(net, v, v - 1, 1 + draw(&seed, longest));
+            add_arc(net, v, v - 1, 1 + network_draw(&seed, longest));
         if (east[v])
-            add_arc(net, v, v + 1, 1 + draw(&seed, longest));
+            add_arc(net, v, v + 1, 1 + network_draw(&seed, longest));
         if (south[v])
-            add_arc(net, v, v + width, 1 + draw(&seed, longest));
+            add_arc(net, v, v + width, 1 + network_draw(&seed, longest));
     }
 }
 
@@ -64,15 +64,41 @@ void network_number_streets(struct network *net)
     }
 }
 
+static void begin(struct network *net, uint32_t nodes)
+{
+    memset(net, 0, sizeof *net);
+    net->width = net->nodes = nodes;
+    net->height = 1;
+}
+
+void network_fan(struct network *net, uint32_t arcs, uint32_t ends, uint32_t longest, uint64_t seed)
+{
+    begin(net, ends + 2);
+    for (uint32_t i = 0; i < arcs; i++)
+        add_arc(net, 0, 1 + i % ends, 1 + network_draw(&seed, longest));
+}
+
+void network_scatter(struct network *net, uint32_t nodes, uint32_t most, uint32_t longest, uint32_t roads, uint64_t *seed)
+{
+    begin(net, nodes);
+    for (uint32_t v = 0; v < nodes; v++) {
+        for (uint32_t arcs = network_draw(seed, most + 1); arcs > 0; arcs--) {
+            uint32_t end = (v + 1 + network_draw(seed, nodes - 1)) % nodes;
+            add_arc(net, v, end, 1 + network_draw(seed, longest));
+            put(net->table + net->bytes - 4, network_draw(seed, roads + 1));
+        }
+    }
+}
+
 struct leg network_leg(const struct network *net, uint32_t across, uint32_t down, uint64_t *seed)
 {
-    uint32_t x = draw(seed, net->width - across), y = draw(seed, net->height - down);
+    uint32_t x = network_draw(seed, net->width - across), y = network_draw(seed, net->height - down);
     uint32_t from_x = x, to_x = x + across, from_y = y, to_y = y + down;
-    if (draw(seed, 2)) {
+    if (network_draw(seed, 2)) {
         from_x = x + across;
         to_x = x;
     }
-    if (draw(seed, 2)) {
+    if (network_draw(seed, 2)) {
         from_y = y + down;
         to_y = y;
     }

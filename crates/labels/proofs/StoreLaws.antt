@@ -121,7 +121,7 @@ module _ (l : List ℕ) (n : ℕ) (x : Row) where
 
   module _ (i : ℕ) (below : i < n) where
     -- a field of it
-    as-before : (k o : ℕ) → o + k ≤ labelBytes → num k (putRow l n x) (i * labelBytes + o) ≡ num k l (i * labelBytes + o)
+    pub as-before : (k o : ℕ) → o + k ≤ labelBytes → num k (putRow l n x) (i * labelBytes + o) ≡ num k l (i * labelBytes + o)
     unfolding putRow putHead
     as-before k o h =
         num-puts-other k headed (n * labelBytes + headBytes) (x .overlaps) (i * labelBytes + o) (inl (omega arith))

@@ -1,18 +1,13 @@
--- The candidates of a search by f: what the list of those after `last` holds, and its first. Being first settles it, so whatever finds a first candidate finds
--- the one of `next`.
-use mathlib.Core.Path.{_≡_, refl, sym, ap}
-use mathlib.Core.Logic.{_⊎_, inl, inr, ⊎-elim}
-use mathlib.Core.Option.{Option, none, some}
+-- The candidates of a search by f: what the list of those after `last` holds.
+use mathlib.Core.Path.{_≡_, sym}
 use mathlib.Core.List.{List, [], _∷_, _++_, map, List·Memᴰ, Memᴰ·map, Memᴰ·of-map, Memᴰ·cast}
 use Prim.Native.Nat.{ℕ}
 use lib.Dec.{T}
 use Rattle.lists.proofs.TestLaws.{keep-e, keep-i}
 use Rattle.lists.proofs.MemberLaws.{flatMap-e, flatMap-i}
 use Rattle.net.specs.Net.{Net}
-use Rattle.net.specs.Route.{endOf, leaves, before, leaving, inOrder}
-use Rattle.net.specs.Search.{candidates, waiting, next}
-use Rattle.net.proofs.Order.{AtMost, at-most-same}
-use Rattle.net.proofs.Sorted.{head-none, head-some, inOrder-e, inOrder-i, inOrder-increasing}
+use Rattle.net.specs.Route.{endOf, leaves, before, leaving}
+use Rattle.net.specs.Search.{candidates, waiting}
 use Rattle.net.proofs.Listing.{leaving-e, leaving-i}
 
 module _ (net : Net) (s : ℕ) where
@@ -52,11 +47,6 @@ module _ (f : List ℕ → ℕ) (net : Net) (s : ℕ) where
     pub extends : Extends net s taken c
     pub after : T (before f last c)
 
-  -- the first candidate after `last`
-  pub record Leads (taken : List (List ℕ)) (last c : List ℕ) : Type 0 where
-    pub is-candidate : Candidate taken last c
-    pub least : (d : List ℕ) → Candidate taken last d → AtMost f c d
-
   pub waiting-e : (taken : List (List ℕ)) (last c : List ℕ) → List·Memᴰ c (waiting f net s taken last) → Candidate taken last c
   unfolding waiting
   waiting-e taken last c m =
@@ -66,32 +56,3 @@ module _ (f : List ℕ → ℕ) (net : Net) (s : ℕ) where
   pub waiting-i : (taken : List (List ℕ)) (last c : List ℕ) → Candidate taken last c → List·Memᴰ c (waiting f net s taken last)
   unfolding waiting
   waiting-i taken last c k = keep-i (before f last) (candidate-i net s taken c (k .extends)) (k .after)
-
-  module _ (taken : List (List ℕ)) (last : List ℕ) where
-    pub next-none : next f net s taken last ≡ none → (c : List ℕ) → Candidate taken last c → ⊥
-    unfolding next
-    next-none e c k = head-none f (inOrder f (waiting f net s taken last)) e c (inOrder-i f (waiting-i taken last c k))
-
-    pub next-some : (c : List ℕ) → next f net s taken last ≡ some c → Leads taken last c
-    unfolding next
-    next-some c e =
-        let ws = waiting f net s taken last in
-        let w = head-some f (inOrder f ws) c (inOrder-increasing f ws) e in
-        record {
-          is-candidate = waiting-e taken last c (inOrder-e f c ws (w .stands));
-          least = λ d k. ⊎-elim (λ i. inl (sym i)) inr (w .leads d (inOrder-i f (waiting-i taken last d k)));
-        }
-
-    pub next-is : (c : List ℕ) → Leads taken last c → next f net s taken last ≡ some c
-    next-is c l = go (next f net s taken last) refl
-      where
-        go : (o : Option (List ℕ)) → next f net s taken last ≡ o → o ≡ some c
-        go none e = absurd (next-none e c (l .is-candidate))
-        go (some d) e = let k = next-some d e in ap some (at-most-same f d c (k .least c (l .is-candidate)) (l .least d (k .is-candidate)))
-
-    pub next-is-none : ((c : List ℕ) → Candidate taken last c → ⊥) → next f net s taken last ≡ none
-    next-is-none h = go (next f net s taken last) refl
-      where
-        go : (o : Option (List ℕ)) → next f net s taken last ≡ o → o ≡ none
-        go none e = refl
-        go (some d) e = absurd (h d (next-some d e .is-candidate))

@@ -3,7 +3,6 @@
 -- else nothing live lies between `last` and c. A candidate that visits a node twice is covered by its own beginning up to there.
 use mathlib.Core.Path.{_≡_, refl, sym, ap, subst, _∙_}
 use mathlib.Core.Logic.{_⊎_, inl, inr, ⊎-elim}
-use mathlib.Core.Option.{none, some}
 use mathlib.Core.List.{List, [], _∷_, _++_, List·Memᴰ, List·Memᴰ·head, List·Memᴰ·append-cases, List·Memᴰ·eq-of-singleton, Memᴰ·append-left, Memᴰ·append-right}
 use mathlib.Core.Bool.{Bool, true, false, not, _&&_}
 use Prim.Native.Nat.{ℕ, zero, suc, _<_, _≤_, _+_}
@@ -17,7 +16,7 @@ use Rattle.lists.proofs.MemberLaws.{last-of}
 use Rattle.net.specs.Net.{arc}
 use Rattle.net.specs.Route.{visited, endOf, partial, lengthOf, before, precedes, overlap, within}
 use Rattle.net.specs.Round.{Query, withinAll, noGreater, livesBy}
-use Rattle.net.specs.Search.{next, covered, passes, upTo}
+use Rattle.net.specs.Search.{covered, passes, upTo}
 use Rattle.net.proofs.Valid.{Valid}
 use Rattle.net.proofs.Order.{before-irrefl, AtMost, at-most-then, at-most-trans, at-most-same, not-both, not-after, empty-first}
 use Rattle.net.proofs.Overlap.{overlap-append}
@@ -26,7 +25,7 @@ use Rattle.net.proofs.Guide.{Guides, before-precedes, precedes-before, 
 use Rattle.net.proofs.Sorted.{Increasing, keep-increasing, increasing-unique, increasing-last}
 use Rattle.net.proofs.Live.{Beats, Live, lives-e, lives-i, live-but-last, live-front}
 use Rattle.net.proofs.Answer.{Within, live-or-beaten, lives-increasing}
-use Rattle.net.proofs.Candidates.{Extends, Candidate, next-none, next-some}
+use Rattle.net.proofs.Candidates.{Extends, Candidate}
 
 module _ (q : Query) (earlier : List (List ℕ)) where
   -- ---- the two tests
@@ -66,7 +65,6 @@ module _ (q : Query) (earlier : List (List ℕ)) where
   abbrev pub Fails : List (List ℕ) → List ℕ → Type 0
   Fails taken c = T (not (withinAll q earlier c)) ⊎ T (covered q earlier taken c)
 
-  -- and so it does ever after
   pub fails-i : (taken : List (List ℕ)) (c : List ℕ) → passes q earlier taken c ≡ false → Fails taken c
   unfolding passes
   fails-i taken c e = go (withinAll q earlier c) (covered q earlier taken c) e
@@ -76,9 +74,10 @@ module _ (q : Query) (earlier : List (List ℕ)) where
       go true true h = inr tt
       go true false h = absurd (subst T h tt)
 
-  pub fails-more : (taken more : List (List ℕ)) (c : List ℕ) → Fails taken c → Fails (taken ++ more) c
-  fails-more taken more c (inl h) = inl h
-  fails-more taken more c (inr h) = let w = covered-e taken c h in inr (covered-i (taken ++ more) (w .0) c (Memᴰ·append-left more (w .1)) (w .2))
+  -- and so it does ever after
+  pub fails-more : (taken more : List (List ℕ)) → ((r : List ℕ) → List·Memᴰ r taken → List·Memᴰ r more) → (c : List ℕ) → Fails taken c → Fails more c
+  fails-more taken more within c (inl h) = inl h
+  fails-more taken more within c (inr h) = let w = covered-e taken c h in inr (covered-i more (w .0) c (within (w .0) (w .1)) (w .2))
 
   -- the first candidate after `last`, but for some that fail
   pub record Foremost (f : List ℕ → ℕ) (taken : List (List ℕ)) (last c : List ℕ) : Type 0 where
@@ -284,45 +283,30 @@ a-member (x ∷ xs) h = (x, List·Memᴰ·head refl)
 
 module _ (q : Query) (earlier : List (List ℕ)) (v : Valid q) (f : List ℕ → ℕ) (g : Guides (q .net) (q .s) f) (taken : List (List ℕ)) (last : List ℕ) (inv : taken ≡ upTo f q earlier last) where
   -- no candidate is left that does not fail: all live ones are taken up
-  pub pass-none : 0 < length taken → ((d : List ℕ) → Candidate f (q .net) (q .s) taken last d → Fails q earlier taken d) → taken ≡ livesBy f q earlier
-  pass-none b h =
+  pub step-none : 0 < length taken → ((d : List ℕ) → Candidate f (q .net) (q .s) taken last d → Fails q earlier taken d) → taken ≡ livesBy f q earlier
+  step-none b h =
       let w = a-member taken b in
       inv
       ∙ upTo-none q earlier v f g last (begun-from q earlier v f g last (w .0) (subst (List·Memᴰ (w .0)) inv (w .1)))
       (subst (λ l. (d : List ℕ) → Candidate f (q .net) (q .s) l last d → Fails q earlier l d) inv h)
-
-  -- no candidate is left at all
-  pub step-none : 0 < length taken → next f (q .net) (q .s) taken last ≡ none → taken ≡ livesBy f q earlier
-  step-none b e = pass-none b (λ d k. absurd (next-none f (q .net) (q .s) taken last e d k))
 
   -- c is the first that need not fail
   module _ (c : List ℕ) (first : Foremost q earlier f taken last c) where
     foremost : Foremost q earlier f (upTo f q earlier last) last c
     foremost = subst (λ l. Foremost q earlier f l last c) inv first
 
-    -- it fails: it is not live, and is dropped
-    pub pass-dropped : Fails q earlier taken c → taken ≡ upTo f q earlier c
-    pass-dropped h = inv ∙ dropped q earlier v f g last c foremost (fails-dead q earlier v f g last c (first .is-candidate .after) (subst (λ l. Fails q earlier l c) inv h))
-
-    -- it passes both tests: it is live, and the next label
-    pub pass-taken : T (withinAll q earlier c) → T (not (covered q earlier taken c)) → taken ++ (c ∷ []) ≡ upTo f q earlier c
-    pass-taken h k =
-        ap (λ l. l ++ (c ∷ [])) inv
-        ∙ took q earlier v f g last c foremost
-        (passes-live q earlier v f g last c foremost (within-e q earlier c h) (subst (λ l. T (covered q earlier l c) → ⊥) inv (T-not (covered q earlier taken c) k)))
-
-  -- c is the first of all
-  module _ (c : List ℕ) (first : next f (q .net) (q .s) taken last ≡ some c) where
-    leads : Foremost q earlier f taken last c
-    leads = let l = next-some f (q .net) (q .s) taken last c first in record { is-candidate = l .is-candidate; least = λ d k. inr (l .least d k) }
-
+    -- it fails a test: it is not live, and is dropped
     pub step-dropped : passes q earlier taken c ≡ false → taken ≡ upTo f q earlier c
-    step-dropped e = pass-dropped c leads (fails-i q earlier taken c e)
+    step-dropped e =
+        inv ∙ dropped q earlier v f g last c foremost (fails-dead q earlier v f g last c (first .is-candidate .after) (subst (λ l. Fails q earlier l c) inv (fails-i q earlier taken c e)))
 
+    -- it passes both: it is live, and the next label
     pub step-taken : passes q earlier taken c ≡ true → taken ++ (c ∷ []) ≡ upTo f q earlier c
     unfolding passes
     step-taken e =
         let x = withinAll q earlier c in
         let y = not (covered q earlier taken c) in
         let h : T (x && y) = subst T (sym e) tt in
-        pass-taken c leads (and-l x y h) (and-r x y h)
+        ap (λ l. l ++ (c ∷ [])) inv
+        ∙ took q earlier v f g last c foremost
+        (passes-live q earlier v f g last c foremost (within-e q earlier c (and-l x y h)) (subst (λ l. T (covered q earlier l c) → ⊥) inv (T-not (covered q earlier taken c) (and-r x y h))))

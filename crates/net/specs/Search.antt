@@ -1,14 +1,13 @@
 -- What the search of one round looks at: chains that extend its labels by one arc, taken in the order by f. `taken` are the chains of its labels, `last` is the
 -- chain last looked at. By `lengthOf` the order is that of rule 3.
-use mathlib.Core.List.{List, [], _∷_, _++_, map, flatMap, head?}
-use mathlib.Core.Option.{Option}
+use mathlib.Core.List.{List, [], _∷_, _++_, map, flatMap}
 use mathlib.Core.Bool.{Bool, not, _&&_}
 use Prim.Native.Nat.{ℕ, suc, _+_, _-_, _*_}
 use lib.Dec.{eqb}
 use lib.ListN.{length}
 use Rattle.lists.specs.Tests.{any, keep}
 use Rattle.net.specs.Net.{Net}
-use Rattle.net.specs.Route.{endOf, before, leaving, inOrder}
+use Rattle.net.specs.Route.{endOf, before, leaving}
 use Rattle.net.specs.Round.{Query, withinAll, noGreater, livesBy}
 
 -- A candidate is a label's chain with an arc more that leaves its end. It may visit a node twice: such a one is covered.
@@ -20,11 +19,6 @@ candidates net s taken = flatMap (λ p. map (λ a. p ++ (a ∷ [])) (leaving net
 unfoldable pub waiting : (List ℕ → ℕ) → Net → ℕ → List (List ℕ) → List ℕ → List (List ℕ)
 unfolding keep before candidates
 waiting f net s taken last = keep (before f last) (candidates net s taken)
-
--- The first of them.
-unfoldable pub next : (List ℕ → ℕ) → Net → ℕ → List (List ℕ) → List ℕ → Option (List ℕ)
-unfolding inOrder waiting
-next f net s taken last = head? (inOrder f (waiting f net s taken last))
 
 -- A label at the end of c has no greater overlap with each earlier route.
 unfoldable pub covered : Query → List (List ℕ) → List (List ℕ) → List ℕ → Bool

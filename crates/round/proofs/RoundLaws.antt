@@ -7,7 +7,6 @@ use Prim.Native.Nat.{ℕ, zero, suc, pred, _+_, _-_, _*_, _≤_, _<_}
 use native.Mathlib.Omega.{arith}
 use lib.ListN.{length, getD, replicate, length-take}
 use lib.Seq.{getD-take}
-use Rattle.lists.specs.Tests.{upFrom}
 use Rattle.lists.proofs.LoopLaws.{length-map-upFrom}
 use borrow.Rule.Slice.PartMut.{putMid, midOf}
 use Rattle.words.specs.Part.{patch}
@@ -19,12 +18,12 @@ use Rattle.labels.specs.Chain.{chainAt, chainsIn, labelAt, labelsIn, slotOf}
 use Rattle.labels.specs.Standing.{Standing}
 use Rattle.labels.specs.Rows.{overlapsOf, labelled}
 use Rattle.labels.proofs.StoreLaws.{length-chainsIn, getD-chainsIn}
-use Rattle.labels.proofs.RowLaws.{labelled-none}
+use Rattle.search_clear.specs.Clear.{clearWork}
 use Rattle.round_turn.specs.declared.State.{State}
 use Rattle.round.specs.declared.Ended.{Ended}
 use Rattle.round.specs.declared.Ended.the-variants.{Answer, NoAnswer, Refused}
 use Rattle.round.specs.Round.{shown, areaAfter, Rounded}
-use Rattle.round_turn.specs.Stage.{StageAt, Over, Searched}
+use Rattle.round_turn.specs.Stage.{StageAt, Over, Finished}
 
 length-labelsIn : (l : List ℕ) (n : ℕ) → length (labelsIn l n) ≡ n
 unfolding labelsIn
@@ -37,15 +36,15 @@ stage-refused (suc zero) q earlier l y a b c h = absurd (b refl)
 stage-refused (suc (suc zero)) q earlier l y a b c h = absurd (c refl)
 stage-refused (suc (suc (suc k))) q earlier l y a b c h = h
 
--- in every stage the labels stand
-stage-standing : (k : ℕ) (q : Query) (earlier : List (List ℕ)) (l : List ℕ) (y : State) → StageAt k q earlier l y → Standing (q .net .arcs) (q .s) l (y .n)
-stage-standing zero q earlier l y h = h .standing
-stage-standing (suc zero) q earlier l y h = h .1 .standing
-stage-standing (suc (suc zero)) q earlier l y h = h .standing
-stage-standing (suc (suc (suc k))) q earlier l y h = h .standing
-
-pub searched-standing : (q : Query) (earlier : List (List ℕ)) (l l′ : List ℕ) (y : State) → Searched q earlier l l′ y → Standing (q .net .arcs) (q .s) l′ (y .n)
-searched-standing q earlier l l′ y h = stage-standing (y .stage) q earlier l′ y (h .stage)
+-- at the end the labels stand
+pub finished-standing : (q : Query) (earlier : List (List ℕ)) (l l′ : List ℕ) (y : State) → y .stage ≢ 0 → Finished q earlier l l′ y → Standing (q .net .arcs) (q .s) l′ (y .n)
+finished-standing q earlier l l′ y ne h = go (y .stage) ne (h .stage)
+  where
+    go : (k : ℕ) → k ≢ 0 → StageAt k q earlier l′ y → Standing (q .net .arcs) (q .s) l′ (y .n)
+    go zero a w = absurd (a refl)
+    go (suc zero) a w = w .1 .standing
+    go (suc (suc zero)) a w = w .standing
+    go (suc (suc (suc k))) a w = w .standing
 
 -- what the call that was lent the slot leaves in the area
 pub slot-written : (w r : ℕ) (area p ys : List ℕ) → r * w + w ≤ length area → ys ≡ slotOf (length (midOf (r * w) (r * w + w - r * w) area)) p
@@ -54,7 +53,7 @@ slot-written w r area p ys h e =
     let n : length (midOf (r * w) (r * w + w - r * w) area) ≡ w = lent (r * w) (r * w + w) area (omega arith) h ∙ omega arith in
     back (r * w) (r * w + w) area ys (omega arith) ∙ ap (patch (r * w) (r * w + w) area) (e ∙ ap (λ k. slotOf k p) n)
 
-module _ (q : Query) (earlier : List (List ℕ)) (w r : ℕ) (area l l′ : List ℕ) (y : State) (h : Searched q earlier l l′ y) where
+module _ (q : Query) (earlier : List (List ℕ)) (w r : ℕ) (area l l′ : List ℕ) (y : State) (h : Finished q earlier l l′ y) where
   -- label i holds the overlaps of the i-th that is counted
   over-held : {e : Ending} → Over q earlier l′ (y .n) e → (i : ℕ) → i < y .n → overlapsAt l′ i (length earlier) ≡ overlapsOf (q .net) earlier (getD (counted q earlier) i [])
   over-held o i b =
@@ -64,14 +63,13 @@ module _ (q : Query) (earlier : List (List ℕ)) (w r : ℕ) (area l l′ : List
 
   -- over any area that is as the ending says
   rounded : (e : Ending) (x : Ended) (area′ : List ℕ) → Over q earlier l′ (y .n) e → x ≡ shown q e → area′ ≡ areaAfter w r area e → Rounded q earlier w r area area′ l l′ x
-  unfolding chainsIn upFrom
   rounded e x area′ o s k =
       let n : length (held q earlier) ≡ y .n = ap length (sym (o .holds)) ∙ length-labelsIn l′ (y .n) in
       record {
         ends = s ∙ ap (shown q) (sym (o .ends));
         holds = ap (labelsIn l′) n ∙ o .holds;
         overlaps = λ i b. over-held o i (omega (arith, n));
-        bytes = h .keeps l (sym (labelled-none (q .net) (q .s) earlier l)) ∙ ap (labelled (q .net) (q .s) earlier l) (o .chains);
+        bytes = h .bytes ∙ ap (λ z. clearWork z (labelled (q .net) (q .s) earlier l (chainsIn l′ (y .n)))) (sym n) ∙ ap (λ ps. clearWork (length (held q earlier)) (labelled (q .net) (q .s) earlier l ps)) (o .chains);
         slot = k ∙ ap (areaAfter w r area) (sym (o .ends));
       }
 

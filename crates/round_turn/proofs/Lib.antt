@@ -1,2 +1,3 @@
 pub mod TurnLaws
 pub mod StageLaws
+pub mod EnterLaws

@@ -1,31 +1,31 @@
--- A turn, over lists. The labels' chains are the live partial routes not after `last`; the theory's step says what the first candidate does to them, and the
--- store of a label adds its chain. Nothing here reads code.
+-- A turn, over lists. The labels' chains are the live partial routes not after `last`; the theory's step says what the first candidate, the root's, does to them, and
+-- the store of a label adds its chain. Where only working bytes change all this stays. Nothing here reads code.
 use mathlib.Core.Path.{_≡_, refl, sym, ap, subst, _∙_}
 use mathlib.Core.Logic.{_⊎_, inl, inr, _≢_}
-use mathlib.Core.Bool.{Bool, true, false, cond}
-use mathlib.Core.List.{List, [], _∷_, _++_, List·Memᴰ, List·Memᴰ·head, List·Memᴰ·append-cases, List·Memᴰ·eq-of-singleton, List·Memᴰ·not-nil, Memᴰ·append-right}
-use mathlib.Core.Option.{none, some}
+use mathlib.Core.Bool.{true, false}
+use mathlib.Core.List.{List, [], _∷_, _++_, List·Memᴰ, List·Memᴰ·head, List·Memᴰ·append-cases, List·Memᴰ·eq-of-singleton, List·Memᴰ·not-nil, Memᴰ·append-right, Memᴰ·map}
 use Prim.Native.Nat.{ℕ, pred, _+_, _-_, _*_, _^_, _≤_, _<_}
 use native.Mathlib.Omega.{arith}
-use lib.Dec.{T, eqb}
+use lib.Dec.{T}
 use lib.ListN.{length, getD, take, replicate, length-append}
 use lib.Seq.{getD-at}
-use borrow.Author.Tests.{eqb-true, eqb-false}
 use Rattle.lists.specs.Tests.{upFrom}
 use Rattle.lists.proofs.IndexLaws.{take-replicate}
+use Rattle.lists.proofs.MemberLaws.{upFrom-i}
 use Rattle.net.specs.Net.{Net, arc}
-use Rattle.net.specs.Route.{endOf, lengthOf, partial}
+use Rattle.net.specs.Route.{endOf, lengthOf, before, partial}
 use Rattle.net.specs.Round.{Query, counted, Ending, answered, unanswered, refused, ending}
 use Rattle.net.specs.Labels.{extend, labels}
-use Rattle.net.specs.Search.{next, passes, upTo, left}
+use Rattle.net.specs.Search.{passes, upTo, left}
 use Rattle.net.specs.Limits.{mostNodes, mostLength, mostLabels}
 use Rattle.net.proofs.Valid.{Valid}
+use Rattle.net.proofs.Order.{before-irrefl, at-most-then}
 use Rattle.net.proofs.Guide.{by-length}
 use Rattle.net.proofs.Sorted.{Increasing}
 use Rattle.net.proofs.Listing.{partial-short, end-below}
 use Rattle.net.proofs.Lengths.{lengthOf-most}
-use Rattle.net.proofs.Candidates.{next-some}
-use Rattle.net.proofs.Step.{upTo-e, upTo-increasing, step-start, step-none, step-dropped, step-taken}
+use Rattle.net.proofs.Chains.{leaves-e}
+use Rattle.net.proofs.Step.{Fails, Foremost, upTo-e, upTo-increasing, step-start, step-none, step-dropped, step-taken}
 use Rattle.net.proofs.Ends.{ends-found, ends-refused, ends-none, ends-held}
 use Rattle.net.proofs.Turns.{left-dropped, left-taken}
 use Rattle.net.proofs.Labels.{Closed, labels-more, upTo-closed}
@@ -37,11 +37,17 @@ use Rattle.labels.proofs.OverlapLaws.{length-overlapsOf, overlaps-most, overlap
 use Rattle.labels.proofs.StoreLaws.{Fits, last-arc-same, length-putRow, chain-other, chains-first, chains-more, length-chainsIn, getD-chainsIn, labels-in-first, labels-in-more}
 use Rattle.labels.proofs.StandingLaws.{emptyRow, fits-empty, standing-none, standing-first, standing-more, holding-first, holding-more, comparable-increasing}
 use Rattle.labels.proofs.RowLaws.{labelled-first, labelled-more, labelled-none}
-use Rattle.search_ask.specs.Ask.{Points, chainOf, candidateIn, lastIn}
+use Rattle.search_ask.specs.Ask.{Points, chainOf, lastIn}
 use Rattle.search_ask.specs.declared.Candidate.{Candidate}
-use Rattle.search_next.proofs.CandidateLaws.{candidate-none, candidate-some, last-none, last-some}
+use Rattle.search_ask.proofs.CandidateLaws.{last-none, last-some}
+use Rattle.search_queue.specs.Working.{cursorAt}
+use Rattle.search_queue.specs.Only.{Only}
+use Rattle.search_queue.proofs.OnlyLaws.{only-trans, chain-only, chains-only, labels-only, standing-only, holding-only}
+use Rattle.search_cursor.specs.Queue.{Queued, QueuedBut}
+use Rattle.search_cursor.proofs.QueueLaws.{root-last, root-foremost, root-leaves, queued-looked}
+use Rattle.search_clear.proofs.RowsLaws.{only-row}
 use Rattle.round_turn.specs.declared.State.{State}
-use Rattle.round_turn.specs.Stage.{guide, Going, StageAt, Over, leftIn, Keeps, rowFor, Turned, Searched}
+use Rattle.round_turn.specs.Stage.{guide, Going, Over, leftIn, Keeps, rowFor, Turned, Searched}
 
 -- what a label more asks: room in the bytes, and limits that its fields keep
 pub record Roomy (q : Query) (l : List ℕ) (n : ℕ) : Type 0 where
@@ -56,8 +62,44 @@ pub record Roomy (q : Query) (l : List ℕ) (n : ℕ) : Type 0 where
 abbrev pub rowIn : Query → List (List ℕ) → List ℕ → Candidate → Row
 rowIn q earlier l c = rowFor (q .net .arcs) (q .s) l c (overlapsOf (q .net) earlier (chainOf l c))
 
+-- ---- where only working bytes change
+
+module _ {k : ℕ} {l m : List ℕ} (o : Only 24 16 k l m) where
+  pub chain-of-only : (c : Candidate) → chainOf m c ≡ chainOf l c
+  chain-of-only c = ap (λ p. p ++ (c .arc ∷ [])) (chain-only o (c .label))
+
+  last-only : (c : Candidate) → lastIn m c ≡ lastIn l c
+  unfolding lastIn
+  last-only c = rw (chain-only o (c .label))
+
+  going-only : (q : Query) (earlier : List (List ℕ)) (x : State) → Going q earlier l x → Going q earlier m x
+  going-only q earlier x g =
+      record {
+        standing = standing-only o (x .n) (g .standing);
+        holding = holding-only o (x .n) (g .holding);
+        begun = g .begun;
+        fits = g .fits;
+        points = g .points;
+        taken = chains-only o (x .n) ∙ g .taken ∙ ap (upTo (guide q) q earlier) (sym (last-only (x .last)));
+        read = labels-only o (x .n) ∙ g .read ∙ ap labels (sym (chains-only o (x .n)));
+        short = λ p i. g .short p (subst (List·Memᴰ p) (chains-only o (x .n)) i);
+      }
+
+  pub over-only : (q : Query) (earlier : List (List ℕ)) (n : ℕ) (e : Ending) → Over q earlier l n e → Over q earlier m n e
+  over-only q earlier n e h =
+      record {
+        standing = standing-only o n (h .standing);
+        holding = holding-only o n (h .holding);
+        ends = h .ends;
+        chains = chains-only o n ∙ h .chains;
+        holds = labels-only o n ∙ h .holds;
+      }
+
+keeps-only : (q : Query) (earlier : List (List ℕ)) (n : ℕ) {l m : List ℕ} → Only 24 16 n l m → Keeps q earlier l n m n
+keeps-only q earlier n {l} {m} o l₀ h = only-trans (subst (λ z. Only 24 16 n (labelled (q .net) (q .s) earlier l₀ z) l) (sym (chains-only o n)) h) o
+
 module _ (q : Query) (earlier : List (List ℕ)) (v : Valid q) (l : List ℕ) (x : State) (g : Going q earlier l x) where
-  inc : Increasing (guide q) (chainsIn l (x .n))
+  pub inc : Increasing (guide q) (chainsIn l (x .n))
   inc = subst (Increasing (guide q)) (sym (g .taken)) (upTo-increasing q earlier v (guide q) (lastIn l (x .last)))
 
   pub going-comparable : Comparable l (x .n)
@@ -74,16 +116,17 @@ module _ (q : Query) (earlier : List (List ℕ)) (v : Valid q) (l : List ℕ) (x
       }
 
   -- no candidate is left
-  pub turn-none : next (guide q) (q .net) (q .s) (chainsIn l (x .n)) (lastIn l (x .last)) ≡ none → Over q earlier l (x .n) (unanswered (x .n))
+  turn-none : ((d : List ℕ) → Rattle.net.proofs.Candidates.Candidate (guide q) (q .net) (q .s) (chainsIn l (x .n)) (lastIn l (x .last)) d → Fails q earlier (chainsIn l (x .n)) d) → Over q earlier l (x .n) (unanswered (x .n))
   turn-none e =
       over (unanswered (x .n))
       (subst (λ n. (ending q earlier ≡ unanswered n) × (take (q .room) (counted q earlier) ≡ chainsIn l (x .n))) (length-chainsIn l (x .n))
       (ends-none q earlier v (guide q) (by-length (q .net) (q .s)) (chainsIn l (x .n)) (step-none q earlier v (guide q) (by-length (q .net) (q .s)) (chainsIn l (x .n)) (lastIn l (x .last)) (g .taken) (omega (arith, length-chainsIn l (x .n), g .begun)) e) (g .short) (omega (arith, length-chainsIn l (x .n), g .fits))))
 
-  -- the first candidate is label i's chain with arc a
-  module _ (c : Candidate) (points : Points (q .net .arcs) (x .n) c) (real : c .arc ≢ noNumber) (first : next (guide q) (q .net) (q .s) (chainsIn l (x .n)) (lastIn l (x .last)) ≡ some (chainOf l c)) where
+  -- the first candidate is c, those aside that fail
+  module _ (c : Candidate) (points : Points (q .net .arcs) (x .n) c) (real : c .arc ≢ noNumber) (root : ℕ)
+      (first : Foremost q earlier (guide q) (chainsIn l (x .n)) (lastIn l (x .last)) (chainOf l c)) where
     -- it is dropped: the labels' chains are the live ones not after it, too
-    going : chainsIn l (x .n) ≡ upTo (guide q) q earlier (chainOf l c) → Going q earlier l (record { n = x .n; last = c; stage = 0 })
+    going : chainsIn l (x .n) ≡ upTo (guide q) q earlier (chainOf l c) → Going q earlier l (record { n = x .n; last = c; root = root; stage = 0 })
     going e =
         record {
           standing = g .standing;
@@ -96,12 +139,12 @@ module _ (q : Query) (earlier : List (List ℕ)) (v : Valid q) (l : List ℕ) (x
           short = g .short;
         }
 
-    pub turn-dropped : passes q earlier (chainsIn l (x .n)) (chainOf l c) ≡ false → Going q earlier l (record { n = x .n; last = c; stage = 0 })
+    turn-dropped : passes q earlier (chainsIn l (x .n)) (chainOf l c) ≡ false → Going q earlier l (record { n = x .n; last = c; root = root; stage = 0 })
     turn-dropped e = going (step-dropped q earlier v (guide q) (by-length (q .net) (q .s)) (chainsIn l (x .n)) (lastIn l (x .last)) (g .taken) (chainOf l c) first e)
 
-    pub turn-dropped-less : leftIn q l (record { n = x .n; last = c; stage = 0 }) < leftIn q l (record { n = x .n; last = x .last; stage = 0 })
+    turn-dropped-less : leftIn q l (record { n = x .n; last = c; root = root; stage = 0 }) < leftIn q l (record { n = x .n; last = x .last; root = x .root; stage = 0 })
     turn-dropped-less =
-        let k = next-some (guide q) (q .net) (q .s) (chainsIn l (x .n)) (lastIn l (x .last)) (chainOf l c) first .is-candidate in
+        let k = first .is-candidate in
         omega (arith, left-dropped (guide q) (q .net) (q .s) (q .room) (chainsIn l (x .n)) (lastIn l (x .last)) (chainOf l c) k, ap (left (guide q) (q .net) (q .s) (q .room) (chainsIn l (x .n))) (last-some l c real))
 
     -- it passes both tests
@@ -110,7 +153,7 @@ module _ (q : Query) (earlier : List (List ℕ)) (v : Valid q) (l : List ℕ) (x
       up = step-taken q earlier v (guide q) (by-length (q .net) (q .s)) (chainsIn l (x .n)) (lastIn l (x .last)) (g .taken) (chainOf l c) first passed
 
       -- there is no room for it
-      pub turn-refused : q .room ≤ x .n → Over q earlier l (x .n) refused
+      turn-refused : q .room ≤ x .n → Over q earlier l (x .n) refused
       turn-refused h =
           over refused
           (ends-refused q earlier v (guide q) (by-length (q .net) (q .s)) (chainsIn l (x .n)) (chainOf l c) up (g .short) (omega (arith, length-chainsIn l (x .n), g .fits)))
@@ -132,10 +175,10 @@ module _ (q : Query) (earlier : List (List ℕ)) (v : Valid q) (l : List ℕ) (x
             upTo-e q earlier v (guide q) (chainOf l c) (chainOf l c)
             (subst (List·Memᴰ (chainOf l c)) up (Memᴰ·append-right (chainsIn l (x .n)) (List·Memᴰ·head refl))) .0 .is-partial
 
-        chain-short : length (chainOf l c) < mostNodes
+        pub chain-short : length (chainOf l c) < mostNodes
         chain-short = omega (arith, partial-short (q .net) (q .s) (v .s-below) (v .sound .to-below) (chainOf l c) chain-partial, v .s-below)
 
-        chain-most : lengthOf (q .net .arcs) (chainOf l c) ≤ mostNodes * mostLength
+        pub chain-most : lengthOf (q .net .arcs) (chainOf l c) ≤ mostNodes * mostLength
         chain-most =
             omega (arith, lengthOf-most (q .net .arcs) mostLength (roomy .len-most) (chainOf l c), chain-short)
 
@@ -180,8 +223,8 @@ module _ (q : Query) (earlier : List (List ℕ)) (v : Valid q) (l : List ℕ) (x
         last-up : lastIn made c ≡ chainOf l c
         last-up = last-some made c real ∙ ap (λ p. p ++ (c .arc ∷ [])) (chain-other row (g .standing .down) (c .label) label-below)
 
-        pub turn-taken : endOf (q .net .arcs) (q .s) (chainOf l c) ≢ q .t
-            → Going q earlier made (record { n = x .n + 1; last = c; stage = 0 })
+        turn-taken : endOf (q .net .arcs) (q .s) (chainOf l c) ≢ q .t
+            → Going q earlier made (record { n = x .n + 1; last = c; root = root; stage = 0 })
         turn-taken far =
             record {
               standing = standing-up;
@@ -207,7 +250,7 @@ module _ (q : Query) (earlier : List (List ℕ)) (v : Valid q) (l : List ℕ) (x
             ∙ ap (λ ps. getD ps (x .n) []) chains-up
             ∙ getD-at (chainsIn l (x .n)) (chainOf l c) [] [] (x .n) (length-chainsIn l (x .n))
 
-        pub turn-answer : endOf (q .net .arcs) (q .s) (chainOf l c) ≡ q .t
+        turn-answer : endOf (q .net .arcs) (q .s) (chainOf l c) ≡ q .t
             → Over q earlier made (x .n + 1) (answered (chainAt made (pred (x .n + 1))) (x .n + 1))
         turn-answer e =
             let n : length (chainsIn l (x .n) ++ ((chainOf l c) ∷ [])) ≡ x .n + 1 =
@@ -223,19 +266,21 @@ module _ (q : Query) (earlier : List (List ℕ)) (v : Valid q) (l : List ℕ) (x
               holds = read-up ∙ ap labels chains-up ∙ sym (ends-held q earlier v (guide q) (chainsIn l (x .n) ++ ((chainOf l c) ∷ [])) (w .1));
             }
 
-        pub turn-keeps : Keeps q earlier l (x .n) made (x .n + 1)
+        turn-keeps : Keeps q earlier l (x .n) made (x .n + 1)
         unfolding rowOf
-        turn-keeps l₀ e =
-            ap (λ b. putRow b (x .n) row) e
-            ∙ ap (λ n. putRow (labelled (q .net) (q .s) earlier l₀ (chainsIn l (x .n))) n row) (sym (length-chainsIn l (x .n)))
-            ∙ ap (λ p. putRow (labelled (q .net) (q .s) earlier l₀ (chainsIn l (x .n))) (length (chainsIn l (x .n))) (rowOf (q .net) (q .s) earlier (extend (c .label) (c .arc)) (p ++ (c .arc ∷ [])))) (sym getD-label)
+        turn-keeps l₀ h =
+            let base = labelled (q .net) (q .s) earlier l₀ (chainsIn l (x .n)) in
+            let e : putRow base (x .n) row ≡ labelled (q .net) (q .s) earlier l₀ (chainsIn made (x .n + 1)) =
+            ap (λ n. putRow base n row) (sym (length-chainsIn l (x .n)))
+            ∙ ap (λ p. putRow base (length (chainsIn l (x .n))) (rowOf (q .net) (q .s) earlier (extend (c .label) (c .arc)) (p ++ (c .arc ∷ [])))) (sym getD-label)
             ∙ sym (labelled-more (q .net) (q .s) earlier l₀ (chainsIn l (x .n)) inc closed (c .label) (c .arc) in-list)
             ∙ ap (λ p. labelled (q .net) (q .s) earlier l₀ (chainsIn l (x .n) ++ ((p ++ (c .arc ∷ [])) ∷ []))) getD-label
-            ∙ ap (labelled (q .net) (q .s) earlier l₀) (sym chains-up)
+            ∙ ap (labelled (q .net) (q .s) earlier l₀) (sym chains-up) in
+            subst (λ z. Only 24 16 (x .n + 1) z made) e (only-row h row (fits .few))
 
-        pub turn-taken-less : left (guide q) (q .net) (q .s) (q .room) (chainsIn made (x .n + 1)) (lastIn made c) < left (guide q) (q .net) (q .s) (q .room) (chainsIn l (x .n)) (lastIn l (x .last))
+        turn-taken-less : left (guide q) (q .net) (q .s) (q .room) (chainsIn made (x .n + 1)) (lastIn made c) < left (guide q) (q .net) (q .s) (q .room) (chainsIn l (x .n)) (lastIn l (x .last))
         turn-taken-less =
-            let k = next-some (guide q) (q .net) (q .s) (chainsIn l (x .n)) (lastIn l (x .last)) (chainOf l c) first .is-candidate in
+            let k = first .is-candidate in
             rw (chains-up, last-up) (left-taken (guide q) (q .net) (q .s) (q .room) (chainsIn l (x .n)) (lastIn l (x .last)) (chainOf l c) k (omega (arith, length-chainsIn l (x .n))))
 
 -- ---- the start
@@ -250,7 +295,7 @@ module _ (q : Query) (earlier : List (List ℕ)) (v : Valid q) (few : length ear
   abbrev opened : List ℕ
   opened = putRow l 0 (emptyRow (q .net) (q .s) earlier)
 
-  pub begin-refused : q .room ≡ 0 → Over q earlier l 0 refused
+  begin-refused : q .room ≡ 0 → Over q earlier l 0 refused
   unfolding chainsIn labelsIn upFrom labels
   begin-refused e =
       let w = ends-refused q earlier v (guide q) (by-length (q .net) (q .s)) [] [] (step-start q earlier v (guide q) (by-length (q .net) (q .s))) (λ p m. absurd (List·Memᴰ·not-nil m)) (sym e) in
@@ -262,9 +307,9 @@ module _ (q : Query) (earlier : List (List ℕ)) (v : Valid q) (few : length ear
         holds = sym (ends-held q earlier v (guide q) [] (w .1));
       }
 
-  pub begin-going : q .s < 2 ^ 16 → labelBytes ≤ length l → 1 ≤ q .room → q .s ≢ q .t → Going q earlier opened (record { n = 1; last = record { label = 0; arc = noNumber }; stage = 0 })
+  begin-going : (root : ℕ) → q .s < 2 ^ 16 → labelBytes ≤ length l → 1 ≤ q .room → q .s ≢ q .t → Going q earlier opened (record { n = 1; last = record { label = 0; arc = noNumber }; root = root; stage = 0 })
   unfolding endOf labels
-  begin-going s bytes room apart =
+  begin-going root s bytes room apart =
       record {
         standing = standing-first (q .net) (q .s) earlier l s bytes few;
         holding = holding-first (q .net) (q .s) earlier l s bytes few;
@@ -276,75 +321,155 @@ module _ (q : Query) (earlier : List (List ℕ)) (v : Valid q) (few : length ear
         short = λ p m e. apart (subst (λ z. endOf (q .net .arcs) (q .s) z ≡ q .t) (List·Memᴰ·eq-of-singleton (subst (List·Memᴰ p) (chains-first opened) m)) e);
       }
 
-  pub begin-keeps : Keeps q earlier l 0 opened 1
+  begin-keeps : Keeps q earlier l 0 opened 1
   unfolding chainsIn upFrom
-  begin-keeps l₀ e =
-      ap (λ b. putRow b 0 (emptyRow (q .net) (q .s) earlier)) (e ∙ labelled-none (q .net) (q .s) earlier l₀)
-      ∙ sym (labelled-first (q .net) (q .s) earlier l₀)
-      ∙ ap (labelled (q .net) (q .s) earlier l₀) (sym (chains-first opened))
+  begin-keeps l₀ h =
+      let row = emptyRow (q .net) (q .s) earlier in
+      subst (λ z. Only 24 16 1 z opened)
+      (ap (λ b. putRow b 0 row) (labelled-none (q .net) (q .s) earlier l₀) ∙ sym (labelled-first (q .net) (q .s) earlier l₀) ∙ ap (labelled (q .net) (q .s) earlier l₀) (sym (chains-first opened)))
+      (only-row h row (omega (arith, length-overlapsOf (q .net) earlier [])))
 
-  pub begun-refused : q .room ≡ 0 → Searched q earlier l l (record { n = 0; last = record { label = 0; arc = noNumber }; stage = 3 })
+  pub begun-refused : q .room ≡ 0 → Searched q earlier l l (record { n = 0; last = record { label = 0; arc = noNumber }; root = 0; stage = 3 })
   begun-refused e = record { long = refl; stage = begin-refused e; keeps = λ l₀ k. k }
 
-  pub begun-first : (l′ : List ℕ) → l′ ≡ opened → q .s < 2 ^ 16 → labelBytes ≤ length l → 1 ≤ q .room → q .s ≢ q .t
-      → Searched q earlier l l′ (record { n = 1; last = record { label = 0; arc = noNumber }; stage = 0 })
-  begun-first l′ e s bytes room apart =
-      subst (λ b. Searched q earlier l b (record { n = 1; last = record { label = 0; arc = noNumber }; stage = 0 })) (sym e)
-      (record { long = length-putRow l 0 (emptyRow (q .net) (q .s) earlier); stage = begin-going s bytes room apart; keeps = begin-keeps })
+  -- its cursor is set
+  pub begun-first : (l′ : List ℕ) (root : ℕ) → Only 24 16 1 opened l′ → Queued q earlier [] l′ 1 root → q .s < 2 ^ 16 → labelBytes ≤ length l → 1 ≤ q .room → q .s ≢ q .t
+      → Searched q earlier l l′ (record { n = 1; last = record { label = 0; arc = noNumber }; root = root; stage = 0 })
+  begun-first l′ root o qu s bytes room apart =
+      record {
+        long = o .long ∙ length-putRow l 0 (emptyRow (q .net) (q .s) earlier);
+        stage = (
+          going-only o q earlier (record { n = 1; last = record { label = 0; arc = noNumber }; root = root; stage = 0 }) (begin-going root s bytes room apart),
+          subst (λ z. Queued q earlier z l′ 1 root) (sym (last-none l′ (record { label = 0; arc = noNumber }) refl)) qu,
+        );
+        keeps = λ l₀ h. keeps-only q earlier 1 o l₀ (begin-keeps l₀ h);
+      }
 
--- ---- a turn, as the code has it: c is what `next` gave
+-- ---- a turn, as the code has it: the root's candidate is looked at
 
-module _ (q : Query) (earlier : List (List ℕ)) (v : Valid q) (l : List ℕ) (x : State) (g : Going q earlier l x) (at : x .stage ≡ 0) (c : Candidate) (points : Points (q .net .arcs) (x .n) c) (seen : candidateIn l c ≡ next (guide q) (q .net) (q .s) (chainsIn l (x .n)) (lastIn l (x .last))) where
-  pub turned-none : c .arc ≡ noNumber → Turned q earlier l x l (record { n = x .n; last = x .last; stage = 2 })
+module _ (q : Query) (earlier : List (List ℕ)) (v : Valid q) (l : List ℕ) (x : State) (g : Going q earlier l x) (at : x .stage ≡ 0) (len-most : (a : ℕ) → arc (q .net .arcs) a .len ≤ mostLength)
+    (qu : Queued q earlier (lastIn l (x .last)) l (x .n) (x .root)) where
+  pub turned-none : cursorAt l (x .root) ≡ noNumber → Turned q earlier l x l (record { n = x .n; last = x .last; root = x .root; stage = 2 })
   turned-none e =
       record {
         long = refl;
-        stage = turn-none q earlier v l x g (sym seen ∙ candidate-none l c e);
+        stage = turn-none q earlier v l x g (root-last q earlier (lastIn l (x .last)) l (x .n) (x .root) (g .standing) len-most qu e);
         keeps = λ l₀ k. k;
         less = omega arith;
       }
 
-  module _ (real : c .arc ≢ noNumber) where
-    next-is : next (guide q) (q .net) (q .s) (chainsIn l (x .n)) (lastIn l (x .last)) ≡ some (chainOf l c)
-    next-is = sym seen ∙ candidate-some l c real
+  module _ (a : ℕ) (is : a ≡ cursorAt l (x .root)) (real : a ≢ noNumber) where
+    abbrev c : Candidate
+    c = record { label = x .root; arc = a }
 
-    pub turned-dropped : passes q earlier (chainsIn l (x .n)) (chainOf l c) ≡ false → Turned q earlier l x l (record { n = x .n; last = c; stage = 0 })
-    turned-dropped e =
+    found : cursorAt l (x .root) ≢ noNumber
+    found e = real (is ∙ e)
+
+    first : Foremost q earlier (guide q) (chainsIn l (x .n)) (lastIn l (x .last)) (chainOf l c)
+    first = rw is (root-foremost q earlier (lastIn l (x .last)) l (x .n) (x .root) (g .standing) len-most qu found)
+
+    pub arc-below : a < length (q .net .arcs)
+    arc-below = leaves-e (q .net) (endOf (q .net .arcs) (q .s) (chainAt l (x .root))) a (rw is (root-leaves q earlier (lastIn l (x .last)) l (x .n) (x .root) (g .standing) len-most qu found)) .is-arc
+
+    points : Points (q .net .arcs) (x .n) c
+    points = record { label-below = λ e. qu .root .used; arc-below = λ e. arc-below }
+
+    -- what moving the root's cursor asks
+    pub looked : QueuedBut q earlier (chainOf l c) l (x .n) (x .root)
+    looked = rw is (queued-looked q earlier (lastIn l (x .last)) l (x .n) (x .root) (g .standing) len-most qu (inc q earlier v l x g) found)
+
+    -- it is dropped, and the root's cursor moves on
+    pub turned-dropped : passes q earlier (chainsIn l (x .n)) (chainOf l c) ≡ false → (l′ : List ℕ) (k : ℕ) → Only 24 16 (x .n) l l′ → Queued q earlier (chainOf l c) l′ (x .n) k
+        → Turned q earlier l x l′ (record { n = x .n; last = c; root = k; stage = 0 })
+    turned-dropped e l′ k o qu′ =
         record {
-          long = refl;
-          stage = turn-dropped q earlier v l x g c points real next-is e;
-          keeps = λ l₀ k. k;
-          less = omega (arith, turn-dropped-less q earlier v l x g c points real next-is);
+          long = o .long;
+          stage = (
+            going-only o q earlier (record { n = x .n; last = c; root = k; stage = 0 }) (turn-dropped q earlier v l x g c points real k first e),
+            subst (λ z. Queued q earlier z l′ (x .n) k) (sym (last-only o c ∙ last-some l c real)) qu′,
+          );
+          keeps = keeps-only q earlier (x .n) o;
+          less = rw (chains-only o (x .n), last-only o c) (omega (arith, turn-dropped-less q earlier v l x g c points real k first));
         }
 
     module _ (passed : passes q earlier (chainsIn l (x .n)) (chainOf l c) ≡ true) where
-      pub turned-refused : q .room ≤ x .n → Turned q earlier l x l (record { n = x .n; last = x .last; stage = 3 })
+      pub turned-refused : q .room ≤ x .n → Turned q earlier l x l (record { n = x .n; last = x .last; root = x .root; stage = 3 })
       turned-refused h =
           record {
             long = refl;
-            stage = turn-refused q earlier v l x g c points real next-is passed h;
+            stage = turn-refused q earlier v l x g c points real (x .root) first passed h;
             keeps = λ l₀ e. e;
             less = omega arith;
           }
 
-      -- taken up: an answer, where it ends at t
-      pub turned-taken : Roomy q l (x .n) → c .arc < length (q .net .arcs)
-          → Turned q earlier l x (putRow l (x .n) (rowIn q earlier l c))
-          (record { n = x .n + 1; last = c; stage = cond (eqb (endOf (q .net .arcs) (q .s) (chainOf l c)) (q .t)) 1 0 })
-      turned-taken roomy is-arc = go (eqb (endOf (q .net .arcs) (q .s) (chainOf l c)) (q .t)) refl
-        where
-          after : List ℕ
-          after = putRow l (x .n) (rowIn q earlier l c)
+      module _ (roomy : Roomy q l (x .n)) where
+        pub short-enough : length (chainOf l c) < mostNodes
+        short-enough = chain-short q earlier v l x g c points real 0 first passed roomy arc-below
 
-          turned : (k : ℕ) → k ≤ 1 → StageAt k q earlier after (record { n = x .n + 1; last = c; stage = k }) → Turned q earlier l x after (record { n = x .n + 1; last = c; stage = k })
-          turned k h stage =
+        pub light-enough : lengthOf (q .net .arcs) (chainOf l c) ≤ mostNodes * mostLength
+        light-enough = chain-most q earlier v l x g c points real 0 first passed roomy arc-below
+
+        -- no label has its chain
+        pub fresh : (i : ℕ) → i < x .n → chainAt l i ≢ chainOf l c
+        unfolding chainsIn
+        fresh i h e =
+            let m : List·Memᴰ (chainAt l i) (upTo (guide q) q earlier (lastIn l (x .last))) = subst (List·Memᴰ (chainAt l i)) (g .taken) (Memᴰ·map (chainAt l) (upFrom-i 0 (x .n) i (omega arith) (omega arith))) in
+            before-irrefl (guide q) (chainOf l c)
+            (subst (λ z. T (before (guide q) z (chainOf l c))) e
+            (at-most-then (guide q) (chainAt l i) (lastIn l (x .last)) (chainOf l c) (upTo-e q earlier v (guide q) (lastIn l (x .last)) (chainAt l i) m .1) (first .is-candidate .after)))
+
+        -- taken up as an answer
+        pub turned-answer : endOf (q .net .arcs) (q .s) (chainOf l c) ≡ q .t → (l′ : List ℕ) → l′ ≡ putRow l (x .n) (rowIn q earlier l c)
+            → Turned q earlier l x l′ (record { n = x .n + 1; last = c; root = x .root; stage = 1 })
+        turned-answer e l′ put =
+            subst (λ b. Turned q earlier l x b (record { n = x .n + 1; last = c; root = x .root; stage = 1 })) (sym put)
+            (record {
+              long = length-putRow l (x .n) (rowIn q earlier l c);
+              stage = (λ z. omega arith, turn-answer q earlier v l x g c points real (x .root) first passed roomy arc-below e);
+              keeps = turn-keeps q earlier v l x g c points real (x .root) first passed roomy arc-below;
+              less = omega (arith, turn-taken-less q earlier v l x g c points real (x .root) first passed roomy arc-below);
+            })
+
+        -- taken up, after the root's cursor moved on: m are the bytes between
+        module _ (m : List ℕ) (o : Only 24 16 (x .n) l m) where
+          first-between : Foremost q earlier (guide q) (chainsIn m (x .n)) (lastIn m (x .last)) (chainOf m c)
+          first-between = rw (chains-only o (x .n), last-only o (x .last), chain-only o (x .root)) first
+
+          passed-between : passes q earlier (chainsIn m (x .n)) (chainOf m c) ≡ true
+          passed-between = rw (chains-only o (x .n), chain-only o (x .root)) passed
+
+          roomy-between : Roomy q m (x .n)
+          roomy-between =
               record {
-                long = length-putRow l (x .n) (rowIn q earlier l c);
-                stage = stage;
-                keeps = turn-keeps q earlier v l x g c points real next-is passed roomy is-arc;
-                less = omega (arith, turn-taken-less q earlier v l x g c points real next-is passed roomy is-arc);
+                room = roomy .room;
+                bytes = rw (o .long) (roomy .bytes);
+                few = roomy .few;
+                nodes-most = roomy .nodes-most;
+                arcs-few = roomy .arcs-few;
+                len-most = len-most;
               }
 
-          go : (b : Bool) → eqb (endOf (q .net .arcs) (q .s) (chainOf l c)) (q .t) ≡ b → Turned q earlier l x after (record { n = x .n + 1; last = c; stage = cond b 1 0 })
-          go true e = turned 1 (omega arith) (λ z. omega arith, turn-answer q earlier v l x g c points real next-is passed roomy is-arc (eqb-true _ _ e))
-          go false e = turned 0 (omega arith) (turn-taken q earlier v l x g c points real next-is passed roomy is-arc (eqb-false _ _ e))
+          pub turned-taken : endOf (q .net .arcs) (q .s) (chainOf l c) ≢ q .t → (l′ : List ℕ) (k : ℕ) → Only 24 16 (x .n + 1) (putRow m (x .n) (rowIn q earlier m c)) l′
+              → Queued q earlier (chainOf l c) l′ (x .n + 1) k → Turned q earlier l x l′ (record { n = x .n + 1; last = c; root = k; stage = 0 })
+          turned-taken far l′ k f qu′ =
+              let g′ = going-only o q earlier x g in
+              let far′ = subst (λ z. endOf (q .net .arcs) (q .s) z ≢ q .t) (sym (chain-of-only o c)) far in
+              let last-is : lastIn l′ c ≡ chainOf l c =
+              last-only f c ∙ last-up q earlier v m x g′ c points real k first-between passed-between roomy-between arc-below ∙ chain-of-only o c in
+              let less′ = turn-taken-less q earlier v m x g′ c points real k first-between passed-between roomy-between arc-below in
+              record {
+                long = f .long ∙ length-putRow m (x .n) (rowIn q earlier m c) ∙ o .long;
+                stage = (
+                  going-only f q earlier (record { n = x .n + 1; last = c; root = k; stage = 0 }) (turn-taken q earlier v m x g′ c points real k first-between passed-between roomy-between arc-below far′),
+                  subst (λ z. Queued q earlier z l′ (x .n + 1) k) (sym last-is) qu′,
+                );
+                keeps = λ l₀ h. keeps-only q earlier (x .n + 1) f l₀
+                    (turn-keeps q earlier v m x g′ c points real k first-between passed-between roomy-between arc-below l₀ (keeps-only q earlier (x .n) o l₀ h));
+                less = rw (chains-only f (x .n + 1), last-only f c)
+                    (omega (
+                      arith,
+                      less′,
+                      ap (λ z. left (guide q) (q .net) (q .s) (q .room) z (lastIn m (x .last))) (chains-only o (x .n)),
+                      ap (left (guide q) (q .net) (q .s) (q .room) (chainsIn l (x .n))) (last-only o (x .last)),
+                    ));
+              }

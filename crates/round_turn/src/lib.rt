@@ -1,24 +1,31 @@
-// The turns of a search. A turn takes the first candidate after the one last looked at, drops it if
-// a test fails, and else takes it up as the next label.
+// The turns of a search. Each label has its own next candidate, and the tree over the labels has
+// the label whose candidate is the first of all. A turn looks at that one: it is dropped if a test
+// fails, and else it is taken up as the next label.
 use search_ask::Ask;
 use search_ask::Candidate;
-use search_next::Seen;
+use search_cursor::advance::Place;
 use search_trial::Trial;
 ghost use mathlib.Core.Path.{_≡_};
 ghost use mathlib.Core.Logic.{_≢_};
 ghost use Prim.Native.Nat.{_+_, _*_, _≤_, _<_};
 ghost use lib.ListN.{length};
 ghost use Rattle.net.specs.Limits.{mostLabels};
-ghost use Rattle.labels.specs.Field.{labelBytes, mostEarlier};
-ghost use Rattle.search_ask.specs.Ask.{Accepted, Searching, Among, queryFor, roomIn};
+ghost use Rattle.table.specs.Table.{arcsOf};
+ghost use Rattle.labels.specs.Field.{labelBytes, mostEarlier, putRow};
+ghost use Rattle.search_ask.specs.Ask.{Searching, Among, queryFor, lastIn};
 ghost use Rattle.search_ask.specs.Earlier.{earlierOf};
 ghost use Rattle.search_driven.specs.Marks.{Filter};
-ghost use Rattle.round_turn.specs.Stage.{Ready, Going, Taken, Turned, Searched};
+ghost use Rattle.search_cursor.specs.Own.{Judging};
+ghost use Rattle.search_cursor.specs.Queue.{Queued};
+ghost use Rattle.round_turn.specs.Stage.{Ready, Going, rowFor, Entering, Entered};
+ghost use Rattle.round_turn.specs.Stage.{Turned, Searched, Finished};
 
-// How many labels are taken up, the candidate last looked at, and the stage.
+// How many labels are taken up, the candidate last looked at, the label whose candidate is the
+// first of all, and the stage.
 pub struct State {
     pub n: usize,
     pub last: Candidate,
+    pub root: usize,
     pub stage: u8,
 }
 
@@ -30,26 +37,56 @@ pub const NO_ANSWER: u8 = 2;
 
 pub const REFUSED: u8 = 3;
 
-// The candidate, whose overlaps are `own`, becomes label n: an answer, where it ends at the goal.
-fn take_up(table: &[u8], ask: Ask, labels: &mut [u8], n: usize, c: Candidate, own: &[u64]) -> State
+// The candidate, whose overlaps are `own`, becomes label n.
+fn take_up(table: &[u8], ask: Ask, labels: &mut [u8], n: usize, c: Candidate, own: &[u64])
     requires { ⌜ (Searching ask (now table) (now labels) n) × (Among (now table) n c)
         × (n < mostLabels) × (n * labelBytes + labelBytes ≤ length (now labels))
         × (length (now own) ≤ mostEarlier) ⌝ }
-    ensures { λ y. ⌜ Taken ask (now (table .entry)) (now (labels .entry)) n c
-        (now (own .entry)) (now (labels .exit)) y ⌝ }
+    ensures { λ y. ⌜ now (labels .exit) ≡ putRow (now (labels .entry)) n
+        (rowFor (arcsOf (now (table .entry))) (ask .s) (now (labels .entry)) c
+        (now (own .entry))) ⌝ }
 {
     let label = c.label;
     let arc = c.arc;
-    let goal = ask.goal;
     let end = table::arc::to_of(table, arc);
-    let len = search_order::length_of(table, ask, labels, n, c);
+    let len = search_ask::length_of(table, ask, labels, n, c);
     labels::field::put_head(labels, n, arc as u32, label as u16, len, end as u16);
     labels::field::put_overlaps(labels, n, own);
-    State {
-        n: n + 1,
-        last: c,
-        stage: if end == goal { ANSWER } else { GOING },
-    }
+}
+
+// The first candidate of all becomes label n: the cursor of the label that it extends moves on, and
+// label n's is set. The label whose candidate is then the first.
+fn enter(
+    table: &[u8],
+    closed: &[u8],
+    ask: Ask,
+    area: &[u32],
+    lens: &[u64],
+    marks: &[u64],
+    labels: &mut [u8],
+    n: usize,
+    c: Candidate,
+    own: &[u64],
+) -> usize
+    requires { ⌜ (Judging ask (now table) (now area) (now lens) (now marks) (now labels) n)
+        × (Among (now table) n c)
+        × (Entering (queryFor ask (now table) (now closed) (now labels))
+        (earlierOf ask (now area) (now lens)) (now labels) n c (now own)) ⌝ }
+    ensures { λ y. ⌜ Entered (queryFor ask (now (table .entry)) (now (closed .entry))
+        (now (labels .entry)))
+        (earlierOf ask (now (area .entry)) (now (lens .entry)))
+        (now (labels .entry)) n c (now (labels .exit)) y ⌝ }
+{
+    let label = c.label;
+    let arc = c.arc;
+    let old = Place {
+        n: n,
+        label: label,
+        from: arc,
+    };
+    let k = search_cursor::settle::settle(table, closed, ask, area, lens, marks, labels, old);
+    take_up(table, ask, labels, n, c, own);
+    search_cursor::settle::enter(table, closed, ask, area, lens, marks, labels, n, k)
 }
 
 // One turn. `marks` is the filter over the earlier answers.
@@ -66,6 +103,9 @@ fn turn(
     requires { ⌜ (Ready ask (now table) (now area) (now lens) (now labels)) × (x .stage ≡ 0)
         × (Going (queryFor ask (now table) (now closed) (now labels))
         (earlierOf ask (now area) (now lens)) (now labels) x)
+        × (Queued (queryFor ask (now table) (now closed) (now labels))
+        (earlierOf ask (now area) (now lens)) (lastIn (now labels) (x .last)) (now labels)
+        (x .n) (x .root))
         × (Filter (now table) (earlierOf ask (now area) (now lens)) (now marks)) ⌝ }
     ensures { λ y. ⌜ Turned (queryFor ask (now (table .entry)) (now (closed .entry))
         (now (labels .entry)))
@@ -74,24 +114,36 @@ fn turn(
 {
     let n = x.n;
     let last = x.last;
-    let seen = Seen { n: n, last: last };
-    let c = search_next::next(table, closed, ask, labels, seen);
-    if c.arc == search_ask::NO_ARC {
+    let root = x.root;
+    let arc = search_queue::working::cursor(labels, root) as usize;
+    if arc == search_ask::NO_ARC {
         return State {
             n: n,
             last: last,
+            root: root,
             stage: NO_ANSWER,
         };
     }
+    let c = Candidate {
+        label: root,
+        arc: arc,
+    };
     let r = lens.len();
     let trial = Trial { r: r, n: n, c: c };
     let mut own = [0u64; labels::field::MOST_EARLIER];
     search_trial::overlap::of_candidate(table, ask, area, marks, labels, trial, &mut own);
-    let end = table::arc::to_of(table, c.arc);
+    let end = table::arc::to_of(table, arc);
     if !search_trial::passes(ask, lens, labels, n, end, &own[0..r]) {
+        let place = Place {
+            n: n,
+            label: root,
+            from: arc,
+        };
+        let k = search_cursor::settle::settle(table, closed, ask, area, lens, marks, labels, place);
         return State {
             n: n,
             last: c,
+            root: k,
             stage: GOING,
         };
     }
@@ -99,10 +151,38 @@ fn turn(
         return State {
             n: n,
             last: last,
+            root: root,
             stage: REFUSED,
         };
     }
-    take_up(table, ask, labels, n, c, &own[0..r])
+    let goal = ask.goal;
+    if end == goal {
+        take_up(table, ask, labels, n, c, &own[0..r]);
+        return State {
+            n: n + 1,
+            last: c,
+            root: root,
+            stage: ANSWER,
+        };
+    }
+    let k = enter(
+        table,
+        closed,
+        ask,
+        area,
+        lens,
+        marks,
+        labels,
+        n,
+        c,
+        &own[0..r],
+    );
+    State {
+        n: n + 1,
+        last: c,
+        root: k,
+        stage: GOING,
+    }
 }
 
 // The first label, the empty chain at s; or no room for it.
@@ -112,9 +192,11 @@ fn begin(
     ask: Ask,
     area: &[u32],
     lens: &[u64],
+    marks: &[u64],
     labels: &mut [u8],
 ) -> State
-    requires { ⌜ Ready ask (now table) (now area) (now lens) (now labels) ⌝ }
+    requires { ⌜ (Ready ask (now table) (now area) (now lens) (now labels))
+        × (Filter (now table) (earlierOf ask (now area) (now lens)) (now marks)) ⌝ }
     ensures { λ y. ⌜ Searched (queryFor ask (now (table .entry)) (now (closed .entry))
         (now (labels .entry)))
         (earlierOf ask (now (area .entry)) (now (lens .entry)))
@@ -128,6 +210,7 @@ fn begin(
         return State {
             n: 0,
             last: none,
+            root: 0,
             stage: REFUSED,
         };
     }
@@ -135,16 +218,23 @@ fn begin(
     let zeros = [0u64; labels::field::MOST_EARLIER];
     labels::field::put_head(labels, 0, labels::field::NONE, 0, 0, s as u16);
     labels::field::put_overlaps(labels, 0, &zeros[0..lens.len()]);
+    let n = 1;
+    let place = Place {
+        n: n,
+        label: 0,
+        from: search_ask::NO_ARC,
+    };
+    let k = search_cursor::settle::settle(table, closed, ask, area, lens, marks, labels, place);
     State {
-        n: 1,
+        n: n,
         last: none,
+        root: k,
         stage: GOING,
     }
 }
 
-// All turns of a round after the earlier answers, whose lengths are `lens`, over the arcs that are
-// not closed.
-pub fn search(
+// All turns of a round.
+fn turns(
     table: &[u8],
     closed: &[u8],
     ask: Ask,
@@ -160,9 +250,31 @@ pub fn search(
 {
     let mut marks = [0u64; search_driven::marks::WORDS];
     search_driven::marks::mark_earlier(table, ask, area, lens.len(), &mut marks);
-    let mut x = begin(table, closed, ask, area, lens, labels);
+    let mut x = begin(table, closed, ask, area, lens, &marks, labels);
     while x.stage == GOING {
         x = turn(table, closed, ask, area, lens, &marks, labels, x);
     }
+    x
+}
+
+// All turns of a round after the earlier answers, whose lengths are `lens`, over the arcs that are
+// not closed. Then the working bytes of its labels are zero again.
+pub fn search(
+    table: &[u8],
+    closed: &[u8],
+    ask: Ask,
+    area: &[u32],
+    lens: &[u64],
+    labels: &mut [u8],
+) -> State
+    requires { ⌜ Ready ask (now table) (now area) (now lens) (now labels) ⌝ }
+    ensures { λ y. ⌜ (y .stage ≢ 0)
+        × (Finished (queryFor ask (now (table .entry)) (now (closed .entry)) (now (labels .entry)))
+        (earlierOf ask (now (area .entry)) (now (lens .entry)))
+        (now (labels .entry)) (now (labels .exit)) y) ⌝ }
+{
+    let x = turns(table, closed, ask, area, lens, labels);
+    let n = x.n;
+    search_clear::clear_work(labels, n);
     x
 }

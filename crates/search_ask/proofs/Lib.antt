@@ -1,2 +1,3 @@
 pub mod AskLaws
+pub mod CandidateLaws
 pub mod EarlierLaws

@@ -3,7 +3,6 @@ use mathlib.Core.Path.{_≡_}
 use mathlib.Core.Bool.{cond}
 use mathlib.Core.List.{List, [], _∷_, _++_}
 use mathlib.Core.Logic.{_≢_}
-use mathlib.Core.Option.{Option, none, some}
 use Prim.Native.Nat.{ℕ, _-_, _/_, _≤_, _<_}
 use lib.Dec.{eqb}
 use lib.ListN.{length}
@@ -61,10 +60,6 @@ chainOf labels c = chainAt labels (c .label) ++ (c .arc ∷ [])
 pub record Among (table : List ℕ) (n : ℕ) (c : Candidate) : Type 0 where
   pub label-below : c .label < n
   pub arc-below : c .arc < records table
-
--- A candidate, or none.
-unfoldable pub candidateIn : List ℕ → Candidate → Option (List ℕ)
-candidateIn labels c = cond (eqb (c .arc) noNumber) none (some (chainOf labels c))
 
 -- The chain last looked at: at first the empty one.
 unfoldable pub lastIn : List ℕ → Candidate → List ℕ

@@ -3,7 +3,9 @@ ghost use mathlib.Core.Path.{_≡_};
 ghost use Prim.Native.Nat.{_+_, _-_, _*_, _≤_};
 ghost use lib.ListN.{length};
 ghost use Rattle.words.specs.Part.{slot};
-ghost use Rattle.search_ask.specs.Ask.{width};
+ghost use Rattle.net.specs.Route.{lengthOf};
+ghost use Rattle.table.specs.Table.{arcsOf};
+ghost use Rattle.search_ask.specs.Ask.{width, Searching, Among, chainOf};
 
 // What is asked of a round, beside the table.
 pub struct Ask {
@@ -39,4 +41,15 @@ pub fn slot(area: &[u32], ask: Ask, j: usize) -> &[u32]
     let from = j * w;
     let to = from + w;
     &area[from..to]
+}
+
+// The length of a candidate.
+pub fn length_of(table: &[u8], ask: Ask, labels: &[u8], n: usize, c: Candidate) -> u64
+    requires { ⌜ (Searching ask (now table) (now labels) n) × (Among (now table) n c) ⌝ }
+    ensures { λ r. ⌜ r
+        ≡ lengthOf (arcsOf (now (table .entry))) (chainOf (now (labels .entry)) c) ⌝ }
+{
+    let label = c.label;
+    let arc = c.arc;
+    labels::field::length(labels, label) + table::arc::length_of(table, arc) as u64
 }

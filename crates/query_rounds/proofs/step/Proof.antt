@@ -10,6 +10,7 @@ use lib.ListN.{length}
 use Rattle.net.specs.Round.{Query}
 use Rattle.labels.specs.Field.{labelBytes}
 use Rattle.labels.proofs.RowLaws.{length-labelled}
+use Rattle.search_clear.proofs.ClearLaws.{length-clear}
 use Rattle.search_ask.specs.Ask.{queryFor, width}
 use Rattle.search_ask.specs.Earlier.{earlierIn}
 use Rattle.search_ask.proofs.AskLaws.{accepted-valid, few-arcs, nodes-most, lengths-most}
@@ -63,7 +64,7 @@ stepping a =
     }
 
 same-labels : (a : tie.After-round) → length (labels-left a) ≡ length (start a .args .labels .now)
-same-labels a = ap length (rounded a .bytes) ∙ length-labelled (query a .net) (query a .s) _ (start a .args .labels .now) _
+same-labels a = ap length (rounded a .bytes) ∙ length-clear _ _ ∙ length-labelled (query a .net) (query a .s) _ (start a .args .labels .now) _
 
 in-row : (s : tie.Start) → s .args .x .r < 8
 in-row s = omega (arith, s .pre .2 .going (s .pre .1), s .pre .0 .few)

@@ -16,7 +16,7 @@ use Rattle.search_ask.specs.Ask.{queryFor, width}
 use Rattle.search_ask.specs.Earlier.{earlierOf}
 use Rattle.search_ask.proofs.AskLaws.{accepted-valid, few-arcs}
 use Rattle.round.proofs.EarlierLaws.{answered-short}
-use Rattle.round.proofs.RoundLaws.{searched-standing, slot-written, rounded-none, rounded-refused, last-label, last-over, rounded-answer}
+use Rattle.round.proofs.RoundLaws.{finished-standing, slot-written, rounded-none, rounded-refused, last-label, last-over, rounded-answer}
 use Rattle.round.proofs.round.Statement.{statement}
 use Rattle.round.proofs.round.Tie as tie
 
@@ -41,7 +41,7 @@ abbrev found : tie.After-search → List ℕ
 found a = a .search .last .1 .1 .1 .1 .1 .0
 
 standing : (a : tie.After-search) → Standing (query a .net .arcs) (query a .s) (found a) (a .search .result .n)
-standing a = searched-standing (query a) (earlier a) (start a .args .labels .now) (found a) (a .search .result) (a .search .ensures .1)
+standing a = finished-standing (query a) (earlier a) (start a .args .labels .now) (found a) (a .search .result) (a .search .ensures .0) (a .search .ensures .1)
 
 -- ---- with an answer, at the place after both tests
 

@@ -1,11 +1,14 @@
 -- Without room for one label nothing is written, and what the round counts, at least the empty chain, exceeds the room. With room, label 0
--- is the empty chain at s, whose overlaps are all 0: the one live partial route not after the empty chain, and it does not end at t.
+-- is the empty chain at s, whose overlaps are all 0: the one live partial route not after the empty chain, and it does not end at t. Its cursor is set, and the tree is
+-- it alone.
 use native.Mathlib.Omega.{arith}
 use borrow.Author.Needs.{needs}
-use mathlib.Core.Path.{_≡_, refl, sym, ap, _∙_}
-use Prim.Native.Nat.{_^_, _≤_, _<_}
+use mathlib.Core.Path.{_≡_, refl, ap, subst, _∙_}
+use mathlib.Core.List.{List}
+use Prim.Native.Nat.{ℕ, _^_, _≤_, _<_}
 use lib.ListN.{length}
-use Rattle.labels.specs.Field.{mostEarlier, headBytes, puts}
+use Rattle.net.specs.Round.{Query}
+use Rattle.labels.specs.Field.{labelBytes, mostEarlier, headBytes, puts, putRow}
 use Rattle.table.specs.Table.{arcsOf}
 use Rattle.labels.proofs.StoreLaws.{row-put}
 use Rattle.labels.proofs.StandingLaws.{emptyRow, standing-none}
@@ -13,49 +16,85 @@ use Rattle.search_ask.specs.Ask.{netFor, queryFor, width}
 use Rattle.search_ask.specs.Earlier.{earlierOf}
 use Rattle.search_ask.proofs.AskLaws.{accepted-valid, nodes-most}
 use Rattle.search_ask.proofs.EarlierLaws.{length-earlierIn}
+use Rattle.search_queue.specs.Only.{Only}
+use Rattle.search_cursor.proofs.EnteredLaws.{queued-begun}
 use Rattle.round_turn.proofs.TurnLaws.{begun-refused, begun-first, zeros}
+use Rattle.round_turn.proofs.EnterLaws.{first-judging, first-queued}
 use Rattle.round_turn.proofs.begin.Statement.{statement}
 use Rattle.round_turn.proofs.begin.Tie as tie
 
-few : (s : tie.Start) → length (earlierOf (s .args .ask) (s .args .area .now) (s .args .lens .now)) ≤ mostEarlier
-few s = omega (arith, length-earlierIn (width (s .args .ask)) (length (s .args .lens .now)) (s .args .area .now), s .pre .few)
+abbrev query : tie.Start → Query
+query s = queryFor (s .args .ask) (s .args .table .now) (s .args .closed .now) (s .args .labels .now)
+
+abbrev earlier : tie.Start → List (List ℕ)
+earlier s = earlierOf (s .args .ask) (s .args .area .now) (s .args .lens .now)
+
+few : (s : tie.Start) → length (earlier s) ≤ mostEarlier
+few s = omega (arith, length-earlierIn (width (s .args .ask)) (length (s .args .lens .now)) (s .args .area .now), s .pre .0 .few)
 
 -- a node's number has 16 bits
 s-fits : (s : tie.Start) → s .args .ask .s < 2 ^ 16
-s-fits s = omega (arith, s .pre .accepted .s-below, nodes-most (s .pre .accepted))
+s-fits s = omega (arith, s .pre .0 .accepted .s-below, nodes-most (s .pre .0 .accepted))
 
 returns : tie.Need-returns
 returns c =
-    let s = c .before .before .before .before .before .before in
-    let l = s .args .labels .now in
-    begun-refused (queryFor (s .args .ask) (s .args .table .now) (s .args .closed .now) l) (earlierOf (s .args .ask) (s .args .area .now) (s .args .lens .now)) (accepted-valid (s .pre .accepted) (s .args .closed .now) l) (few s) l (omega arith)
+    let s = c .before .before .before .before .before .before .before in
+    begun-refused (query s) (earlier s) (accepted-valid (s .pre .0 .accepted) (s .args .closed .now) (s .args .labels .now)) (few s) (s .args .labels .now) (omega arith)
 
 put-head-requires : tie.Need-put-head-requires
 put-head-requires c κs =
-    let s = c .before .before .before .before .before .before .before in
+    let s = c .before .before .before .before .before .before .before .before in
     let none = standing-none (arcsOf (s .args .table .now)) (s .args .ask .s) (s .args .labels .now) in
     (omega arith, none .down, none .jumping, λ e. absurd (e refl), omega arith)
 
+abbrev start : tie.After-put-overlaps → tie.Start
+start o = o .before .before .before .before .before .before .before .before .before .before .before .before .before .before .before
+
+-- there is room for it
+roomy : (o : tie.After-put-overlaps) → labelBytes ≤ length (start o .args .labels .now)
+roomy o = omega (arith, o .before .before .before .before .before .before .before .before .if1 .left)
+
+-- the first label is put
+opened : (o : tie.After-put-overlaps) → let s = start o in
+    o .put-overlaps .last .0 ≡ putRow (s .args .labels .now) 0 (emptyRow (netFor (s .args .ask) (s .args .table .now) (s .args .closed .now)) (s .args .ask .s) (earlier s))
+opened o =
+    let p = o .before .before .before .before .before .before in
+    let s = start o in
+    let net = netFor (s .args .ask) (s .args .table .now) (s .args .closed .now) in
+    row-put (s .args .labels .now) 0 (emptyRow net (s .args .ask .s) (earlier s)) _ _ (p .put-head .ensures)
+    (o .put-overlaps .ensures ∙ ap (puts (p .put-head .last .0) headBytes) (zeros net (earlier s) (length (s .args .lens .now)) (few s) (length-earlierIn (width (s .args .ask)) (length (s .args .lens .now)) (s .args .area .now))))
+
+settle-requires : tie.Need-settle-requires
+settle-requires c κs =
+    let o = c .before .before .before in
+    let s = start o in (
+      first-judging (s .args .ask) (s .args .table .now) (s .args .closed .now) (s .args .area .now) (s .args .lens .now) (s .args .marks .now) (s .args .labels .now) (s .pre .0 .accepted) (s .pre .0 .earlier) (s .pre .1) (few s) (roomy o) _ (opened o),
+      omega arith,
+      λ ne. absurd (ne refl),
+      queued-begun _ _ _ _,
+    )
+
 returns-2 : tie.Need-returns-2
 returns-2 c =
-    let o = c .before .before in
-    let p = o .before .before .before .before .before .before in
-    let s = p .before .before .before .before .before .before .before .before in
-    let l = s .args .labels .now in
-    let earlier = earlierOf (s .args .ask) (s .args .area .now) (s .args .lens .now) in
-    begun-first (queryFor (s .args .ask) (s .args .table .now) (s .args .closed .now) l) earlier (accepted-valid (s .pre .accepted) (s .args .closed .now) l) (few s) l _
-    (row-put l 0 (emptyRow (netFor (s .args .ask) (s .args .table .now) (s .args .closed .now)) (s .args .ask .s) earlier) _ _ (p .put-head .ensures) (o .put-overlaps .ensures ∙ ap (puts (p .put-head .last .0) headBytes) (zeros (netFor (s .args .ask) (s .args .table .now) (s .args .closed .now)) earlier (length (s .args .lens .now)) (few s) (length-earlierIn (width (s .args .ask)) (length (s .args .lens .now)) (s .args .area .now))))) (s-fits s) (omega arith) (omega arith) (s .pre .accepted .apart)
+    let k = c .before .before in
+    let o = k .before .before .before .before in
+    let s = start o in
+    begun-first (query s) (earlier s) (accepted-valid (s .pre .0 .accepted) (s .args .closed .now) (s .args .labels .now)) (few s) (s .args .labels .now) _ (k .settle .result)
+    (subst (λ b. Only 24 16 1 b (k .settle .last .1 .1 .1 .1 .1 .1 .0)) (opened o) (k .settle .ensures .0))
+    (first-queued (s .args .ask) (s .args .table .now) (s .args .closed .now) (s .args .area .now) (s .args .lens .now) (s .args .marks .now) (s .args .labels .now) (s .pre .0 .accepted) (s .pre .0 .earlier) (s .pre .1) (few s) (roomy o) _ (opened o) _ (k .settle .result) (k .settle .ensures .1))
+    (s-fits s) (roomy o) (omega (arith, roomy o)) (s .pre .0 .accepted .apart)
 
 pub begin-spec : {M : Type 1} → statement M
 begin-spec =
     tie.close
     (tie.spec
     returns
-    (λ c. let s = c .before .before .before .before .before .before .before in omega (arith, s-fits s))
+    (λ c. let s = c .before .before .before .before .before .before .before .before in omega (arith, s-fits s))
     put-head-requires
     (λ c. search needs)
     (λ c. search needs)
     (λ c. search needs)
     (λ c κs. search needs)
+    settle-requires
     (λ c. search needs)
     returns-2)

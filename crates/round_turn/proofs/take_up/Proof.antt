@@ -1,22 +1,18 @@
 -- What is put is the candidate's row: its length, its last arc's end, which is its own, and its overlaps. An arc's number fits 32 bits, and a label's 16.
-use mathlib.Core.Path.{_≡_, sym, ap, ap₂, _∙_}
+use mathlib.Core.Path.{_≡_, ap₂, _∙_}
 use mathlib.Core.List.{[]}
-use Prim.Native.Nat.{ℕ, _+_, _^_, _<_}
+use Prim.Native.Nat.{ℕ, _^_, _<_}
 use native.Mathlib.Omega.{arith}
 use borrow.Author.Needs.{needs}
-use borrow.Author.Tests.{eq-eqb, ne-eqb}
-use mathlib.Core.Bool.{cond}
-use lib.Dec.{eqb}
 use Rattle.net.specs.Route.{endOf}
 use Rattle.net.proofs.Listing.{end-below}
 use Rattle.table.specs.Table.{arcsOf}
 use Rattle.labels.specs.Chain.{chainAt}
-use Rattle.labels.specs.Field.{putHead, putRow}
+use Rattle.labels.specs.Field.{putHead}
 use Rattle.labels.proofs.StoreLaws.{row-put}
 use Rattle.search_ask.specs.Ask.{netFor, chainOf}
 use Rattle.search_ask.proofs.AskLaws.{accepted-valid, few-records, nodes-most}
 use Rattle.search_trial.proofs.OverlapLaws.{end-is}
-use Rattle.round_turn.specs.declared.State.{State}
 use Rattle.round_turn.specs.Stage.{rowFor}
 use Rattle.round_turn.proofs.take_up.Statement.{statement}
 use Rattle.round_turn.proofs.take_up.Tie as tie
@@ -41,25 +37,14 @@ end-fits s =
 abbrev after : tie.After-slice-known3 → tie.After-to-of
 after c = c .before .before .before .before .before .before .before .before .before .before
 
-bytes : (c : tie.After-slice-known3) → let s = start (after c) in
-    c .before .before .put-overlaps .last .0 ≡ putRow (s .args .labels .now) (s .args .n) (rowFor (arcsOf (s .args .table .now)) (s .args .ask .s) (s .args .labels .now) (s .args .c) (s .args .own .now))
-bytes c =
+returns : tie.Need-returns
+returns c =
     let s = start (after c) in
     let o = c .before .before in
     let k = o .before .before .before .before in
     row-put (s .args .labels .now) (s .args .n) (rowFor (arcsOf (s .args .table .now)) (s .args .ask .s) (s .args .labels .now) (s .args .c) (s .args .own .now)) _ _
     (k .put-head .ensures ∙ ap₂ (putHead (s .args .labels .now) (s .args .n) (s .args .c .arc) (s .args .c .label)) (k .before .before .length-of .ensures) (ends (after c)))
     (o .put-overlaps .ensures)
-
-returns : tie.Need-returns
-returns c =
-    let k = after (c .before) in
-    record { bytes = bytes (c .before); state = rw (eq-eqb (end (start k)) (start k .args .ask .goal) (sym (ends k) ∙ c .if1 .taken)) }
-
-returns-2 : tie.Need-returns-2
-returns-2 c =
-    let k = after (c .before) in
-    record { bytes = bytes (c .before); state = rw (ne-eqb (end (start k)) (start k .args .ask .goal) (λ e. c .if1 .left (ends k ∙ e))) }
 
 put-head-requires : tie.Need-put-head-requires
 put-head-requires c κs =
@@ -79,7 +64,4 @@ take-up-spec =
     put-head-requires
     (λ c κs. search needs)
     (λ c. search needs)
-    (λ c. search needs)
-    returns
-    (λ c. search needs)
-    returns-2)
+    returns)

@@ -1,0 +1,3 @@
+pub mod OwnLaws
+pub mod QueueLaws
+pub mod EnteredLaws

@@ -1,0 +1,3 @@
+pub mod TreeLaws
+pub mod BlockLaws
+pub mod EnterLaws
