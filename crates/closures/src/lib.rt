@@ -1,6 +1,8 @@
 // Roads closed for the day: a byte for each arc, 0 open and 1 closed. Where no bytes are lent no arc
 // is closed.
 ghost use mathlib.Core.Path.{_≡_};
+ghost use mathlib.Core.Bool.{not};
+ghost use Rattle.table.specs.Table.{isOpen};
 ghost use Rattle.closures.specs.Closed.{wrong, nextOpen};
 
 // Whether the bytes are of another number than the arcs, or one has another value.
@@ -20,8 +22,7 @@ pub fn wrong(table: &[u8], closed: &[u8]) -> bool
     false
 }
 
-// The next open arc from place `arc` on of a run that ends at `end`, or `end`. Everything that
-// walks a run steps by it.
+// The next open arc from place `arc` on of a run that ends at `end`, or `end`.
 pub fn next_arc(closed: &[u8], arc: usize, end: usize) -> usize
     ensures { λ r. ⌜ r ≡ nextOpen (now (closed .entry)) arc end ⌝ }
 {
@@ -39,4 +40,14 @@ pub fn next_arc(closed: &[u8], arc: usize, end: usize) -> usize
         a += 1;
     }
     end
+}
+
+// Whether an arc is closed.
+pub fn is_closed(closed: &[u8], arc: usize) -> bool
+    ensures { λ r. ⌜ r ≡ not (isOpen (now (closed .entry)) arc) ⌝ }
+{
+    if closed.len() <= arc {
+        return false;
+    }
+    closed[arc] != 0
 }

@@ -196,7 +196,8 @@ cored-reached i g labels′ area′ r f =
           ∙ sym (ap (λ b. cond b (map asRecord (summaries (queryOf i) (i .k) (roundsOf i)) ++ drop (i .k) before) before) on);
     }
 
--- the same ask
-pub cored-same : (table closed : List ℕ) (wish : Wish) (labels area : List ℕ) (x y : Ask) (g : Got) (labels′ area′ : List ℕ) → x ≡ y
-    → Cored (asked table closed x wish labels area) g labels′ area′ → Cored (asked table closed y wish labels area) g labels′ area′
-cored-same table closed wish labels area x y g labels′ area′ e c = subst (λ z. Cored (asked table closed z wish labels area) g labels′ area′) e c
+-- the same ask, and the same answer
+pub cored-same : (table closed : List ℕ) (wish : Wish) (labels area : List ℕ) (x y : Ask) (g h : Got) (labels′ area′ : List ℕ) → x ≡ y → h ≡ g
+    → Cored (asked table closed x wish labels area) g labels′ area′ → Cored (asked table closed y wish labels area) h labels′ area′
+cored-same table closed wish labels area x y g h labels′ area′ e f c =
+    subst (λ v. Cored (asked table closed y wish labels area) v labels′ area′) (sym f) (subst (λ z. Cored (asked table closed z wish labels area) g labels′ area′) e c)

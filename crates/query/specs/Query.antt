@@ -20,6 +20,7 @@ use Rattle.query_rounds.specs.Area.{areaWith}
 use Rattle.query_rounds.specs.Progress.{asRecord}
 use Rattle.query_rounds.specs.declared.Got.{Got}
 use Rattle.query.specs.declared.Wish.{Wish}
+use Rattle.query.specs.declared.Done.{Done}
 
 -- All that a query is given. `closed` are the closure bytes, none where no closures are lent; `lent` is the number of summaries.
 pub record Input : Type 0 where
@@ -102,6 +103,10 @@ pub record Replied (i : Input) (x : Told) (labels′ area′ : List ℕ) (sums�
   pub labels : labels′ ≡ labelsDue i
   pub area : area′ ≡ areaDue i
   pub sums : sums′ ≡ sumsDue i sums₀
+
+-- What is done, with the summaries out of their rows.
+abbrev pub gotOf : Done → List ℕ → List ℕ → List ℕ → Got
+gotOf d lens arcs labels = record { told = d .told; sums = record { length = lens; arcs = arcs; labels = labels }; n = d .n }
 
 -- What the query on plain numbers gives: the outcome, the buffers, and how many summaries are to be written and which.
 pub record Cored (i : Input) (g : Got) (labels′ area′ : List ℕ) : Type 0 where

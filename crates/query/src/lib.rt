@@ -10,18 +10,33 @@ ghost use Rattle.net.specs.Limits.{mostNodes, mostRoutes};
 ghost use Rattle.net.specs.Outcome.{refusal};
 ghost use Rattle.closures.specs.Closed.{wrong};
 ghost use Rattle.search_ask.specs.Ask.{queryFor};
-ghost use Rattle.query.specs.Query.{asked, input, inputClosed, tooSmall, refusedOf, Cored};
+ghost use Rattle.query_rounds.specs.Progress.{Zeros};
+ghost use Rattle.query.specs.Query.{
+  asked,
+  input,
+  inputClosed,
+  tooSmall,
+  refusedOf,
+  gotOf,
+  Cored,
+};
 
 pub const MOST_B: u32 = 1000;
 
 pub const MOST_LABELS: usize = 65535;
 
-// What is wanted beside the ask: how many routes, how many summaries are lent, and whether closures
-// are.
+// What is wanted beside the ask: how many routes, whether closures are lent, and how many summaries
+// are (last, so that less padding stands between them).
 pub struct Wish {
     pub k: u32,
-    pub lent: usize,
     pub closing: bool,
+    pub lent: usize,
+}
+
+// What is told, and how many summaries are to be written: none under a refusal.
+struct Done {
+    told: Told,
+    n: usize,
 }
 
 // 7, 8 or 9, or 0 where there is none of them.
@@ -114,23 +129,8 @@ pub fn refused(
     told
 }
 
-// A refusal, which writes no summary.
-fn refuse(told: Told) -> Got
-    ensures { λ g. ⌜ (g .told ≡ told) × (g .n ≡ 0) ⌝ }
-{
-    let none = [0u64; summary::MOST_ROUTES];
-    Got {
-        told: told,
-        sums: summary::Sums {
-            length: none,
-            arcs: none,
-            labels: none,
-        },
-        n: 0,
-    }
-}
-
-// The query of an ask.
+// The query of an ask, with its summaries in rows of zeros that are lent: they stand on the stack
+// of the caller, and not once more here.
 fn decide(
     table: &[u8],
     closed: &[u8],
@@ -138,15 +138,45 @@ fn decide(
     wish: Wish,
     labels: &mut [u8],
     area: &mut [u32],
-) -> Got
-    ensures { λ g. ⌜ Cored (asked (now (table .entry)) (now (closed .entry)) ask wish
-        (now (labels .entry)) (now (area .entry))) g (now (labels .exit)) (now (area .exit)) ⌝ }
+    lens: &mut [u64],
+    arcs: &mut [u16],
+    counts: &mut [u16],
+) -> Done
+    requires { ⌜ Zeros (now lens) (now arcs) (now counts) ⌝ }
+    ensures { λ d. ⌜ Cored (asked (now (table .entry)) (now (closed .entry)) ask wish
+        (now (labels .entry)) (now (area .entry)))
+        (gotOf d (now (lens .exit)) (now (arcs .exit)) (now (counts .exit)))
+        (now (labels .exit)) (now (area .exit)) ⌝ }
 {
     let told = refused(table, closed, ask, wish, labels, area);
     if told.outcome != outcome::FOUND {
-        return refuse(told);
+        return Done { told: told, n: 0 };
     }
-    query_rounds::all(table, closed, ask, wish.k as usize, labels, area)
+    let k = wish.k as usize;
+    Done {
+        told: query_rounds::all(table, closed, ask, k, labels, area, lens, arcs, counts),
+        n: k,
+    }
+}
+
+fn got_of(
+    d: Done,
+    lens: [u64; summary::MOST_ROUTES],
+    arcs: [u16; summary::MOST_ROUTES],
+    counts: [u16; summary::MOST_ROUTES],
+) -> Got
+    ensures { λ g. ⌜ g ≡ gotOf d lens arcs counts ⌝ }
+{
+    let told = d.told;
+    Got {
+        told: told,
+        sums: summary::Sums {
+            length: lens,
+            arcs: arcs,
+            labels: counts,
+        },
+        n: d.n,
+    }
 }
 
 fn ask_of(nodes: u32, s: u32, goal: u32, a: u32, b: u32) -> Ask
@@ -181,10 +211,24 @@ pub fn core(
     let ask = ask_of(nodes, s, goal, a, b);
     let wish = Wish {
         k: k,
-        lent: lent,
         closing: false,
+        lent: lent,
     };
-    decide(table, &table[0..0], ask, wish, labels, area)
+    let mut lens = [0u64; summary::MOST_ROUTES];
+    let mut arcs = [0u16; summary::MOST_ROUTES];
+    let mut counts = [0u16; summary::MOST_ROUTES];
+    let d = decide(
+        table,
+        &table[0..0],
+        ask,
+        wish,
+        labels,
+        area,
+        &mut lens,
+        &mut arcs,
+        &mut counts,
+    );
+    got_of(d, lens, arcs, counts)
 }
 
 // The same over the arcs that are not closed: `closed` has a byte for each arc, 0 open and 1 closed.
@@ -208,8 +252,22 @@ pub fn core_closed(
     let ask = ask_of(nodes, s, goal, a, b);
     let wish = Wish {
         k: k,
-        lent: lent,
         closing: true,
+        lent: lent,
     };
-    decide(table, closed, ask, wish, labels, area)
+    let mut lens = [0u64; summary::MOST_ROUTES];
+    let mut arcs = [0u16; summary::MOST_ROUTES];
+    let mut counts = [0u16; summary::MOST_ROUTES];
+    let d = decide(
+        table,
+        closed,
+        ask,
+        wish,
+        labels,
+        area,
+        &mut lens,
+        &mut arcs,
+        &mut counts,
+    );
+    got_of(d, lens, arcs, counts)
 }

@@ -122,3 +122,8 @@ slots-at w (suc k) [] rest (suc j) s h =
     ap (λ l. slot w (suc j) ((l ++ slots w k []) ++ rest)) (blank w) ∙ slot-next w [] (slots w k []) rest j (omega arith) ∙ slots-at w k [] rest j s (omega arith)
 slots-at w (suc k) (x ∷ ps) rest zero s h = slot-first w x (slots w k ps) rest (s 0 (omega arith))
 slots-at w (suc k) (x ∷ ps) rest (suc j) s h = slot-next w x (slots w k ps) rest j (s 0 (omega arith)) ∙ slots-at w k ps rest j (λ i m. s (suc i) (omega arith)) (omega arith)
+
+-- each slot of a query is blank at first
+pub blank-at : (w k : ℕ) (area a : List ℕ) → a ≡ patch 0 (k * w) area (replicate (k * w - 0) noNumber) → (j : ℕ) → j < k → slot w j a ≡ replicate w noNumber
+unfolding areaWith
+blank-at w k area a e j h = ap (slot w j) (e ∙ area-blank w k area) ∙ slots-at w k [] (drop (k * w) area) j (λ i m. absurd (omega arith)) h ∙ sym (blank w)

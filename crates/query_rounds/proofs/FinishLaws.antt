@@ -3,7 +3,7 @@
 use mathlib.Core.Path.{_≡_, refl, sym, ap, _∙_}
 use mathlib.Core.Logic.{_≢_}
 use mathlib.Core.List.{List, [], _∷_, _++_, map, append-nil}
-use Prim.Native.Nat.{ℕ, zero, suc, _+_, _-_, _≤_}
+use Prim.Native.Nat.{ℕ, zero, suc, _+_, _-_, _≤_, _<_}
 use native.Mathlib.Omega.{arith}
 use lib.ListN.{length, getD, replicate}
 use Rattle.lists.specs.Tests.{upFrom}
@@ -13,20 +13,20 @@ use Rattle.net.specs.Round.{Query, Ending, answered, unanswered, refused, endin
 use Rattle.net.specs.Outcome.{goOn, roundsBy, rounds, told, answers}
 use Rattle.outcome.specs.declared.Told.{Told}
 use Rattle.outcome.specs.Outcome.{room, beside}
+use Rattle.labels.specs.Field.{noNumber}
 use Rattle.search_ask.specs.Earlier.{routeIn, earlierIn}
 use Rattle.query_rounds.specs.Area.{areaWith}
 use Rattle.query_rounds.specs.Finished.{Finished}
-use Rattle.query_rounds.specs.Progress.{asRecord, answeredIn, lastRound, toCome, madeIn, Underway, outcomeAt}
+use Rattle.query_rounds.specs.Progress.{Progress, progress, asRecord, answeredIn, lastRound, toCome, madeIn, Underway, outcomeAt}
 use Rattle.query_rounds.specs.declared.Got.{Got}
-use Rattle.query_rounds.specs.declared.Progress.{Progress}
 use Rattle.query_rounds.proofs.SumsLaws.{shows-first}
 
 abbrev pub atStart : Progress
-atStart = record { r = 0; stage = 0; sums = record { length = replicate mostRoutes 0; arcs = replicate mostRoutes 0; labels = replicate mostRoutes 0 } }
+atStart = progress 0 0 (replicate mostRoutes 0) (replicate mostRoutes 0) (replicate mostRoutes 0)
 
-pub underway-start : (q : Query) (w k : ℕ) (area : List ℕ) → 1 ≤ k → Underway q w k area atStart
+pub underway-start : (q : Query) (w k : ℕ) (area : List ℕ) → 1 ≤ k → ((j : ℕ) → j < k → slot w j area ≡ replicate w noNumber) → Underway q w k area atStart
 unfolding answeredIn earlierIn upFrom
-underway-start q w k area h =
+underway-start q w k area h blank =
     let n : k - 0 ≡ k = omega arith in
     record {
       going = λ e. h;
@@ -35,10 +35,12 @@ underway-start q w k area h =
       earlier = record {
         few = omega arith;
         slots = omega arith;
+        formed = λ j h. absurd (omega arith);
         enough = omega arith;
         lengths = λ j i. absurd (omega arith);
         most = λ j i. absurd (omega arith);
       };
+      blank = λ j a b. blank j b;
       made = ap (λ m. rounds q m []) n;
       sums = refl;
     }

@@ -8,30 +8,32 @@ use Prim.Native.Nat.{ℕ, suc, _+_, _-_, _*_, _≤_, _<_}
 use native.Mathlib.Nat.{mul-le-mul-right}
 use native.Mathlib.Omega.{arith}
 use lib.Dec.{eqb}
-use lib.ListN.{length, getD, set, take, length-set, length-take}
+use lib.ListN.{length, getD, set, take, replicate, length-set, length-take}
 use lib.Seq.{getD-set-same, getD-set-other, getD-take}
 use borrow.Author.Tests.{eqb-true, eqb-false}
 use Rattle.lists.specs.Tests.{upFrom}
 use Rattle.lists.proofs.LoopLaws.{map-upFrom-more, map-upFrom-cong, length-map-upFrom}
 use Rattle.words.specs.Part.{slot}
+use Rattle.words.proofs.PartLaws.{slot-other}
 use Rattle.net.specs.Net.{Arc, arc}
 use Rattle.net.specs.Route.{lengthOf}
-use Rattle.net.specs.Limits.{mostNodes, mostLength, mostRoutes}
+use Rattle.net.specs.Limits.{mostNodes, mostLength, mostRoutes, mostLabels}
 use Rattle.net.specs.Round.{Query, Ending, answered, unanswered, refused, ending}
 use Rattle.net.specs.Outcome.{goOn, roundsBy, rounds, summary}
 use Rattle.net.proofs.Valid.{Valid}
+use Rattle.net.proofs.Ends.{ending-answered, ending-unanswered}
 use Rattle.labels.specs.Field.{noNumber}
+use Rattle.labels.specs.Chain.{slotOf}
 use Rattle.search_ask.specs.Earlier.{routeIn, earlierIn, Earlier}
 use Rattle.round.specs.declared.Ended.{Ended}
 use Rattle.round.specs.declared.Ended.the-variants.{Answer, NoAnswer, Refused}
 use Rattle.round.specs.Round.{shown, areaAfter}
-use Rattle.round.proofs.EarlierLaws.{here, there, length-area, earlier-more, earlier-kept}
+use Rattle.round.proofs.EarlierLaws.{length-slotOf, answered-short, here, there, length-area, earlier-more, earlier-kept}
 use Rattle.query_rounds.specs.Area.{areaWith}
 use Rattle.summary.specs.declared.Summary.{Summary}
 use Rattle.summary.specs.Sums.{setAt}
-use Rattle.query_rounds.specs.Progress.{asRecord, answeredIn, lastRound, toCome, madeIn, Underway, Slotted, Stepped, afterOf}
+use Rattle.query_rounds.specs.Progress.{Progress, progress, asRecord, answeredIn, lastRound, toCome, madeIn, Underway, Slotted, Stepped, afterOf}
 use Rattle.query_rounds.specs.declared.Added.{Added}
-use Rattle.query_rounds.specs.declared.Progress.{Progress}
 use Rattle.query_rounds.proofs.AreaLaws.{area-more}
 use Rattle.query_rounds.proofs.SumsLaws.{Shows, shows-more}
 
@@ -85,6 +87,7 @@ earlier-set arcs w r area lens v h =
     record {
       few = h .few;
       slots = h .slots;
+      formed = h .formed;
       enough = omega (arith, h .enough, length-set lens r v);
       lengths = λ j m. getD-set-other lens r j v 0 (λ e. omega arith) ∙ h .lengths j m;
       most = λ j m. rw (getD-set-other lens r j v 0 (λ e. omega arith)) (h .most j m);
@@ -101,6 +104,7 @@ earlier-lent {arcs} {w} {r} {area} {lens} h =
     record {
       few = omega (arith, n, h .few);
       slots = rw n (h .slots);
+      formed = λ j m. h .formed j (omega (arith, n));
       enough = omega arith;
       lengths = λ j m. at j (omega (arith, n)) ∙ h .lengths j (omega (arith, n));
       most = λ j m. rw (at j (omega (arith, n))) (h .most j (omega (arith, n)));
@@ -212,6 +216,14 @@ module _ (q : Query) (k : ℕ) (area : List ℕ) (x : Progress) (on : Stepping q
     long-next : length area′ ≡ length area
     long-next = ap length after ∙ length-area q (earlierIn w (x .r) area) (on .valid) (on .few-arcs) p n found (x .r) area slots-room
 
+    -- the slots after it are blank
+    blank-next : (j : ℕ) → x .r + 1 ≤ j → j < k → slot w j area′ ≡ replicate w noNumber
+    unfolding areaAfter
+    blank-next j a b =
+        ap (slot w j) after
+        ∙ slot-other w (x .r) j area (slotOf w p) slots-room (length-slotOf w p (answered-short q (earlierIn w (x .r) area) (on .valid) (on .few-arcs) p n found)) (λ e. omega arith)
+        ∙ on .underway .blank j (omega arith) b
+
     stepped-found : x .r + 1 ≡ k → Stepped q w k area x area′ (next 1)
     unfolding next roundsBy
     stepped-found e =
@@ -223,6 +235,7 @@ module _ (q : Query) (k : ℕ) (area : List ℕ) (x : Progress) (on : Stepping q
             few = omega arith;
             rows = rows-kept row;
             earlier = earlier-held;
+            blank = blank-next;
             made = append-nil (answeredIn w area′ (next 1) ++ []) ∙ append-nil (answeredIn w area′ (next 1)) ∙ answered-next 1
                 ∙ ap (λ i. answeredIn w area x ++ (answered p n ∷ rounds q i (earlierIn w (x .r) area ++ (p ∷ [])))) (sym z) ∙ made-next;
             sums = subst (Shows q (next 1 .sums)) (sym (append-nil (answeredIn w area′ (next 1)) ∙ answered-next 1)) (shows-next 1);
@@ -241,6 +254,7 @@ module _ (q : Query) (k : ℕ) (area : List ℕ) (x : Progress) (on : Stepping q
             few = omega (arith, below);
             rows = rows-kept row;
             earlier = earlier-held;
+            blank = blank-next;
             made = ap₂ _++_ (append-nil (answeredIn w area′ (next 0)) ∙ answered-next 0) (ap (rounds q (k - (x .r + 1))) earlier-next)
                 ∙ append-assoc (answeredIn w area x) (answered p n ∷ []) (rounds q (k - (x .r + 1)) (earlierIn w (x .r) area ++ (p ∷ [])))
                 ∙ made-next;
@@ -280,6 +294,7 @@ module _ (q : Query) (k : ℕ) (area : List ℕ) (x : Progress) (on : Stepping q
             few = on .underway .few;
             rows = rows-kept (record { length = 0; arcs = 0; labels = c });
             earlier = earlier-set (q .net .arcs) w (x .r) area (x .sums .length) 0 (on .underway .earlier);
+            blank = on .underway .blank;
             made = ap₂ _++_ made-over (none-come (earlierIn w (x .r) area)) ∙ append-nil (answeredIn w area x ++ (z ∷ []))
                 ∙ ap (λ ys. answeredIn w area x ++ ys) (sym stops ∙ sym (this-round z found)) ∙ to-come;
             sums = subst (Shows q (ended s c .sums)) (sym made-over)
@@ -320,3 +335,27 @@ module _ (q : Query) (k : ℕ) (area : List ℕ) (x : Progress) (on : Stepping q
   stepped-after (NoAnswer n) ends area′ is room i y a = subst (λ v. Stepped q w k area x area′ (over v)) (sym a) (stepped-none n ends area′ is)
   stepped-after Refused ends area′ is room i y a =
       subst (λ v. Stepped q w k area x area′ (over v)) (sym (a ∙ ap (afterOf Refused (x .r) k) i)) (stepped-refused ends area′ is)
+
+  -- an answer has fewer arcs than there are nodes, and a label count is at most the room: both fit 16 bits
+  abbrev Small : Added → Type 0
+  Small y = (y .row .arcs < 65536) × (y .row .labels < 65536)
+
+  pub small-after : q .room ≤ mostLabels → (e : Ended) → e ≡ shown q (ending q (earlierIn w (x .r) area)) → (room : ℕ) → room ≡ q .room → (y : Added) → y ≡ afterOf e (x .r) k room → Small y
+  small-after h (Answer l m n) ends room i y a =
+      let s = shown-answer q (ending q (earlierIn w (x .r) area)) l m n ends in
+      let short = answered-short q (earlierIn w (x .r) area) (on .valid) (on .few-arcs) (s .0) n (s .1) in
+      subst Small (sym a)
+      (omega (arith, s .3, short, on .nodes-most), omega (arith, h, ending-answered q (earlierIn w (x .r) area) (on .valid) (lengthOf (q .net .arcs)) (s .0) n (s .1) .2))
+  small-after h (NoAnswer n) ends room i y a =
+      let f = shown-none q (ending q (earlierIn w (x .r) area)) n ends in
+      subst Small (sym a) (omega arith, omega (arith, h, ending-unanswered q (earlierIn w (x .r) area) (on .valid) (lengthOf (q .net .arcs)) n f .2))
+  small-after h Refused ends room i y a = subst Small (sym a) (omega arith, omega (arith, h, i))
+
+-- the rows as the step leaves them
+pub stepped-rows : (q : Query) (w k : ℕ) (area area′ : List ℕ) (x : Progress) (y : Added) (lens arcs labels : List ℕ)
+    → lens ≡ set (x .sums .length) (x .r) (y .row .length) → arcs ≡ set (x .sums .arcs) (x .r) (y .row .arcs) → labels ≡ set (x .sums .labels) (x .r) (y .row .labels)
+    → Stepped q w k area x area′ (record { r = y .r; stage = y .stage; sums = setAt (x .sums) (x .r) (y .row) }) → Stepped q w k area x area′ (progress (y .r) (y .stage) lens arcs labels)
+stepped-rows q w k area area′ x y lens arcs labels e f g s =
+    subst (λ l. Stepped q w k area x area′ (progress (y .r) (y .stage) l arcs labels)) (sym e)
+    (subst (λ l. Stepped q w k area x area′ (progress (y .r) (y .stage) (set (x .sums .length) (x .r) (y .row .length)) l labels)) (sym f)
+    (subst (λ l. Stepped q w k area x area′ (progress (y .r) (y .stage) (set (x .sums .length) (x .r) (y .row .length)) (set (x .sums .arcs) (x .r) (y .row .arcs)) l)) (sym g) s))

@@ -14,10 +14,9 @@ use Rattle.search_ask.specs.Earlier.{earlierIn}
 use Rattle.search_ask.specs.declared.Ask.{Ask}
 use Rattle.round_turn.proofs.StageLaws.{query-same}
 use Rattle.query_rounds.specs.Finished.{Finished}
-use Rattle.query_rounds.specs.Progress.{Underway, Slotted, Stepped, outcomeAt}
+use Rattle.query_rounds.specs.Progress.{Progress, progress, Zeros, Underway, Slotted, Stepped, outcomeAt}
 use Rattle.query_rounds.specs.declared.Got.{Got}
-use Rattle.query_rounds.specs.declared.Progress.{Progress}
-use Rattle.query_rounds.proofs.AreaLaws.{area-blank}
+use Rattle.query_rounds.proofs.AreaLaws.{area-blank, blank-at}
 use Rattle.query_rounds.proofs.FinishLaws.{atStart, underway-start, finished}
 
 -- the labels l₀ and the area a₀ have become l and a
@@ -28,14 +27,29 @@ pub record Gone (q : Query) (w k : ℕ) (l₀ a₀ l a : List ℕ) (x : Progress
   pub slots : Slotted w k a₀ 0 a (x .r)
 
 module _ (ask : Ask) (t closed : List ℕ) (k : ℕ) (l₀ a₀ : List ℕ) where
-  pub gone-start : 1 ≤ k → Gone (queryFor ask t closed l₀) (width ask) k l₀ a₀ l₀ a₀ atStart
-  gone-start h = record { underway = underway-start (queryFor ask t closed l₀) (width ask) k a₀ h; labels-long = refl; area-long = refl; slots = λ b e. e }
+  -- a₀ is the area b with its slots blank
+  module _ (h : 1 ≤ k) (b : List ℕ) (e : a₀ ≡ patch 0 (k * (width ask)) b (replicate (k * (width ask) - 0) noNumber)) where
+    gone-zeros : Gone (queryFor ask t closed l₀) (width ask) k l₀ a₀ l₀ a₀ atStart
+    gone-zeros =
+        record { underway = underway-start (queryFor ask t closed l₀) (width ask) k a₀ h (blank-at (width ask) k b a₀ e); labels-long = refl; area-long = refl; slots = λ b e. e }
+
+    pub gone-start : (lens arcs labels : List ℕ) → Zeros lens arcs labels → Gone (queryFor ask t closed l₀) (width ask) k l₀ a₀ l₀ a₀ (progress 0 0 lens arcs labels)
+    gone-start lens arcs labels z =
+        subst (λ v. Gone (queryFor ask t closed l₀) (width ask) k l₀ a₀ l₀ a₀ (progress 0 0 v arcs labels)) (sym (z .0))
+        (subst (λ v. Gone (queryFor ask t closed l₀) (width ask) k l₀ a₀ l₀ a₀ (progress 0 0 (replicate mostRoutes 0) v labels)) (sym (z .1))
+        (subst (λ v. Gone (queryFor ask t closed l₀) (width ask) k l₀ a₀ l₀ a₀ (progress 0 0 (replicate mostRoutes 0) (replicate mostRoutes 0) v)) (sym (z .2)) gone-zeros))
 
   module _ (l a : List ℕ) (x : Progress) (g : Gone (queryFor ask t closed l₀) (width ask) k l₀ a₀ l a x) where
-    pub gone-underway : Underway (queryFor ask t closed l) (width ask) k a x
-    gone-underway = subst (λ q. Underway q (width ask) k a x) (query-same ask t closed [] l₀ l (sym (g .labels-long))) (g .underway)
+    -- as the step finds it, in stage 0
+    abbrev going : ℕ → Progress
+    going s = record { r = x .r; stage = s; sums = x .sums }
 
-    module _ (l′ a′ : List ℕ) (y : Progress) (long : length l′ ≡ length l) (s : Stepped (queryFor ask t closed l) (width ask) k a x a′ y) where
+    pub gone-underway : x .stage ≡ 0 → Underway (queryFor ask t closed l) (width ask) k a (going 0)
+    gone-underway z =
+        subst (λ q. Underway q (width ask) k a (going 0)) (query-same ask t closed [] l₀ l (sym (g .labels-long)))
+        (subst (λ s. Underway (queryFor ask t closed l₀) (width ask) k a (going s)) z (g .underway))
+
+    module _ (l′ a′ : List ℕ) (y : Progress) (long : length l′ ≡ length l) (s : Stepped (queryFor ask t closed l) (width ask) k a (going 0) a′ y) where
       pub gone-step : Gone (queryFor ask t closed l₀) (width ask) k l₀ a₀ l′ a′ y
       gone-step =
           record {

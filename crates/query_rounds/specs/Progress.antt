@@ -9,6 +9,7 @@ use Rattle.lists.specs.Tests.{upFrom}
 use Rattle.words.specs.Part.{slot}
 use Rattle.net.specs.Limits.{mostLabels, mostRoutes}
 use Rattle.net.specs.Round.{Query, Ending, answered, unanswered, refused}
+use Rattle.labels.specs.Field.{noNumber}
 use Rattle.outcome.specs.declared.Told.{Told}
 use Rattle.outcome.specs.Outcome.{found, fewer, room, plain, beside}
 use Rattle.net.specs.Outcome.{rounds, summary, notBegun}
@@ -18,10 +19,24 @@ use Rattle.search_ask.specs.Earlier.{routeIn, earlierIn, Earlier}
 use Rattle.round.specs.declared.Ended.{Ended}
 use Rattle.round.specs.declared.Ended.the-variants.{Answer, NoAnswer, Refused}
 use Rattle.summary.specs.declared.Summary.{Summary}
+use Rattle.summary.specs.declared.Sums.{Sums}
 use Rattle.summary.specs.Sums.{firsts}
 use Rattle.query_rounds.specs.Area.{areaWith}
 use Rattle.query_rounds.specs.declared.Added.{Added}
-use Rattle.query_rounds.specs.declared.Progress.{Progress}
+
+-- How many rounds were answered, the stage, and the summaries.
+pub record Progress : Type 0 where
+  pub r : ℕ
+  pub stage : ℕ
+  pub sums : Sums
+
+-- The same with the summaries in their rows.
+abbrev pub progress : ℕ → ℕ → List ℕ → List ℕ → List ℕ → Progress
+progress r stage lens arcs labels = record { r = r; stage = stage; sums = record { length = lens; arcs = arcs; labels = labels } }
+
+-- Rows of zeros, one for each route that a query may want.
+abbrev pub Zeros : List ℕ → List ℕ → List ℕ → Type 0
+Zeros lens arcs labels = (lens ≡ replicate mostRoutes 0) × (arcs ≡ replicate mostRoutes 0) × (labels ≡ replicate mostRoutes 0)
 
 -- What the rounds of a query ask: an accepted ask, no more room than labels may have, and slots for the wanted routes.
 pub record Wanted (ask : Ask) (table : List ℕ) (k : ℕ) (labels area : List ℕ) : Type 0 where
@@ -55,12 +70,14 @@ toCome (suc s) q k earlier x = []
 abbrev pub madeIn : ℕ → List ℕ → Progress → List Ending
 madeIn w area x = answeredIn w area x ++ lastRound (x .stage) x
 
--- Between two rounds of a query for k routes: what was made and what is to come are the query's rounds, and the summaries are those of what was made.
+-- Between two rounds of a query for k routes: what was made and what is to come are the query's rounds, the summaries are those of what was made, and the slots of
+-- what is to come are blank.
 pub record Underway (q : Query) (w k : ℕ) (area : List ℕ) (x : Progress) : Type 0 where
   pub going : x .stage ≡ 0 → x .r < k
   pub few : x .r ≤ k
   pub rows : (length (x .sums .length) ≡ mostRoutes) × (length (x .sums .arcs) ≡ mostRoutes) × (length (x .sums .labels) ≡ mostRoutes)
   pub earlier : Earlier (q .net .arcs) w (x .r) area (x .sums .length)
+  pub blank : (j : ℕ) → x .r ≤ j → j < k → slot w j area ≡ replicate w noNumber
   pub made : madeIn w area x ++ toCome (x .stage) q k (earlierIn w (x .r) area) x ≡ rounds q k []
   pub sums : firsts (x .sums) mostRoutes ≡ map asRecord (map (summary q) (madeIn w area x) ++ replicate (mostRoutes - length (madeIn w area x)) notBegun)
 

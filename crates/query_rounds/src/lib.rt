@@ -9,10 +9,18 @@ ghost use mathlib.Core.Bool.{cond};
 ghost use mathlib.Core.Logic.{_≢_};
 ghost use Prim.Native.Nat.{_<_, _≤_};
 ghost use lib.Dec.{eqb};
-ghost use lib.ListN.{length};
+ghost use lib.ListN.{length, set};
 ghost use Rattle.net.specs.Limits.{mostRoutes};
 ghost use Rattle.search_ask.specs.Ask.{queryFor, width};
-ghost use Rattle.query_rounds.specs.Progress.{Wanted, Underway, Stepped, afterOf, outcomeAt};
+ghost use Rattle.query_rounds.specs.Progress.{
+  Wanted,
+  Underway,
+  Stepped,
+  afterOf,
+  outcomeAt,
+  progress,
+  Zeros,
+};
 ghost use Rattle.query_rounds.specs.Finished.{Finished};
 
 // The outcome, the summaries, and how many of them are to be written: none under a refusal.
@@ -22,11 +30,9 @@ pub struct Got {
     pub n: usize,
 }
 
-// How many rounds were answered, the summaries, and the stage (last, so that no padding stands
-// before the summaries).
-pub struct Progress {
+// How many rounds were answered, and the stage.
+pub struct Stand {
     pub r: usize,
-    pub sums: Sums,
     pub stage: u8,
 }
 
@@ -88,7 +94,21 @@ fn after(e: Ended, r: usize, k: usize, room: usize) -> Added
     }
 }
 
-// One round more.
+// The summary of round r, from 0, in the lent rows.
+fn note(lens: &mut [u64], arcs: &mut [u16], counts: &mut [u16], r: usize, row: Summary)
+    requires { ⌜ (r < length (now lens)) × (r < length (now arcs)) × (r < length (now counts))
+        × (row .arcs < 65536) × (row .labels < 65536) ⌝ }
+    ensures { λ _. ⌜ (now (lens .exit) ≡ set (now (lens .entry)) r (row .length))
+        × (now (arcs .exit) ≡ set (now (arcs .entry)) r (row .arcs))
+        × (now (counts .exit) ≡ set (now (counts .entry)) r (row .labels)) ⌝ }
+{
+    lens[r] = row.length;
+    arcs[r] = row.arcs as u16;
+    counts[r] = row.labels as u16;
+}
+
+// One round more, after r answers. The summaries are rows of numbers that the caller lends, so that
+// they stand on the stack once.
 pub fn step(
     table: &[u8],
     closed: &[u8],
@@ -96,23 +116,26 @@ pub fn step(
     k: usize,
     labels: &mut [u8],
     area: &mut [u32],
-    x: Progress,
-) -> Progress
-    requires { ⌜ (Wanted ask (now table) k (now labels) (now area)) × (x .stage ≡ 0)
+    lens: &mut [u64],
+    arcs: &mut [u16],
+    counts: &mut [u16],
+    r: usize,
+) -> Stand
+    requires { ⌜ (Wanted ask (now table) k (now labels) (now area))
         × (Underway (queryFor ask (now table) (now closed) (now labels)) (width ask) k
-        (now area) x) ⌝ }
+        (now area) (progress r 0 (now lens) (now arcs) (now counts))) ⌝ }
     ensures { λ y. ⌜ (length (now (labels .exit)) ≡ length (now (labels .entry)))
         × (Stepped (queryFor ask (now (table .entry)) (now (closed .entry))
-        (now (labels .entry))) (width ask) k (now (area .entry)) x (now (area .exit)) y) ⌝ }
+        (now (labels .entry))) (width ask) k (now (area .entry))
+        (progress r 0 (now (lens .entry)) (now (arcs .entry)) (now (counts .entry)))
+        (now (area .exit))
+        (progress (y .r) (y .stage) (now (lens .exit)) (now (arcs .exit)) (now (counts .exit)))) ⌝ }
 {
-    let r = x.r;
-    let sums = x.sums;
-    let lens = sums.length;
     let e = round::round(table, closed, ask, area, &lens[0..r], labels);
     let y = after(e, r, k, labels.len() / labels::field::LABEL);
-    Progress {
+    note(lens, arcs, counts, r, y.row);
+    Stand {
         r: y.r,
-        sums: summary::with(sums, r, y.row),
         stage: y.stage,
     }
 }
@@ -134,19 +157,8 @@ fn tell(stage: u8, r: usize) -> Told
     }
 }
 
-// The summaries are an argument here, for a variable of their own is one more copy on the stack.
-fn got_of(told: Told, sums: Sums, n: usize) -> Got
-    ensures { λ g. ⌜ g ≡ record { told = told; sums = sums; n = n } ⌝ }
-{
-    Got {
-        told: told,
-        sums: sums,
-        n: n,
-    }
-}
-
-// All rounds of a query for k routes: the slots are blank at first, and the labels are cleared at
-// the end.
+// All rounds of a query for k routes, into rows of zeros: the slots are blank at first, and the
+// labels are cleared at the end.
 pub fn all(
     table: &[u8],
     closed: &[u8],
@@ -154,28 +166,32 @@ pub fn all(
     k: usize,
     labels: &mut [u8],
     area: &mut [u32],
-) -> Got
-    requires { ⌜ (Wanted ask (now table) k (now labels) (now area)) × (1 ≤ k) ⌝ }
-    ensures { λ g. ⌜ Finished (queryFor ask (now (table .entry)) (now (closed .entry))
-        (now (labels .entry))) (width ask) k (now (labels .entry)) (now (area .entry)) g
+    lens: &mut [u64],
+    arcs: &mut [u16],
+    counts: &mut [u16],
+) -> Told
+    requires { ⌜ (Wanted ask (now table) k (now labels) (now area)) × (1 ≤ k)
+        × (Zeros (now lens) (now arcs) (now counts)) ⌝ }
+    ensures { λ t. ⌜ Finished (queryFor ask (now (table .entry)) (now (closed .entry))
+        (now (labels .entry))) (width ask) k (now (labels .entry)) (now (area .entry))
+        (record {
+          told = t;
+          sums = record {
+            length = now (lens .exit);
+            arcs = now (arcs .exit);
+            labels = now (counts .exit);
+          };
+          n = k;
+        })
         (now (labels .exit)) (now (area .exit)) ⌝ }
 {
     let w = ask.nodes as usize - 1;
     let end = k * w;
     words::fill::fill32_part(area, 0, end, labels::field::NONE);
-    let zeros = [0u64; summary::MOST_ROUTES];
-    let mut x = Progress {
-        r: 0,
-        sums: Sums {
-            length: zeros,
-            arcs: zeros,
-            labels: zeros,
-        },
-        stage: GOING,
-    };
+    let mut x = Stand { r: 0, stage: GOING };
     while x.stage == GOING {
-        x = step(table, closed, ask, k, labels, area, x);
+        x = step(table, closed, ask, k, labels, area, lens, arcs, counts, x.r);
     }
     words::fill::fill8(labels, 0);
-    got_of(tell(x.stage, x.r), x.sums, k)
+    tell(x.stage, x.r)
 }

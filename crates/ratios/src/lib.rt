@@ -70,7 +70,7 @@ pub fn with(t: Rows, i: usize, x: Ratios) -> Rows
 
 // The two figures of route i, from 0, whose length is `lens[i]` and whose number of arcs
 // `counts[i]`.
-pub fn of(table: &[u8], ask: Ask, area: &[u32], lens: &[u64], counts: &[u64], i: usize) -> Ratios
+pub fn of(table: &[u8], ask: Ask, area: &[u32], lens: &[u64], counts: &[u16], i: usize) -> Ratios
     requires { ⌜ Routes ask (now table) (now area) (now lens) (now counts) (i + 1) ⌝ }
     ensures { λ r. ⌜ r ≡ ratiosOf (netFor ask (now (table .entry)) [])
         (routeAt ask (now (area .entry)) i) (earlierIn (width ask) i (now (area .entry))) ⌝ }
@@ -86,7 +86,7 @@ pub fn of(table: &[u8], ask: Ask, area: &[u32], lens: &[u64], counts: &[u64], i:
 }
 
 // How many of the first n rounds have an answer.
-fn answered(counts: &[u64], n: usize) -> usize
+fn answered(counts: &[u16], n: usize) -> usize
     requires { ⌜ n ≤ length (now counts) ⌝ }
     ensures { λ r. ⌜ r ≡ answeredIn (now (counts .entry)) n ⌝ }
 {

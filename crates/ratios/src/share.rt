@@ -26,7 +26,7 @@ fn route(area: &[u32], ask: Ask, j: usize, count: usize) -> &[u32]
 // The overlap of a route with another, arc by arc.
 fn overlap(table: &[u8], ask: Ask, q: &[u32], p: &[u32]) -> u64
     requires { ⌜ (Accepted ask (now table)) × (Arcs (now table) (now q))
-        × (length (now q) ≤ mostNodes) ⌝ }
+        × (length (now q) ≤ mostNodes) × (Arcs (now table) (now p)) ⌝ }
     ensures { λ r. ⌜ r ≡ overlap (netFor ask (now (table .entry)) []) (now (q .entry))
         (routeIn (now (p .entry))) ⌝ }
 {
@@ -46,7 +46,7 @@ fn share(
     ask: Ask,
     area: &[u32],
     lens: &[u64],
-    counts: &[u64],
+    counts: &[u16],
     i: usize,
     j: usize,
 ) -> Fraction
@@ -80,7 +80,7 @@ pub(crate) fn greatest(
     ask: Ask,
     area: &[u32],
     lens: &[u64],
-    counts: &[u64],
+    counts: &[u16],
     i: usize,
 ) -> Fraction
     requires { ⌜ Routes ask (now table) (now area) (now lens) (now counts) (i + 1) ⌝ }

@@ -7,7 +7,7 @@ use mathlib.Core.List.{List, [], _∷_, _++_, append-nil, List·Memᴰ, List·Me
 use Prim.Native.Nat.{ℕ, zero, suc, _+_, _-_, _*_, _≤_, _<_}
 use native.Mathlib.Omega.{arith}
 use lib.Dec.{T, eqb}
-use lib.ListN.{length, getD, set, replicate, length-append, length-replicate, length-set}
+use lib.ListN.{length, getD, set, replicate, length-append, length-replicate, getD-replicate, length-set}
 use lib.Seq.{getD-set-same, getD-set-other}
 use borrow.Author.Tests.{ne-eqb}
 use Rattle.lists.specs.Tests.{keep}
@@ -26,7 +26,7 @@ use Rattle.net.proofs.Listing.{partial-short}
 use Rattle.net.proofs.Lengths.{lengthOf-most}
 use Rattle.net.proofs.Ends.{answered-partial}
 use Rattle.labels.specs.Field.{noNumber}
-use Rattle.search_ask.specs.Earlier.{routeIn, earlierIn, Earlier}
+use Rattle.search_ask.specs.Earlier.{routeIn, earlierIn, Formed, Earlier}
 use Rattle.labels.specs.Chain.{slotOf}
 use Rattle.round.specs.Round.{areaAfter}
 
@@ -54,6 +54,22 @@ slot-route w p h = keep-append isArc p (replicate (w - length p) noNumber) ∙ a
 pub length-slotOf : (w : ℕ) (p : List ℕ) → length p ≤ w → length (slotOf w p) ≡ w
 length-slotOf w p h = omega (arith, length-append p (replicate (w - length p) noNumber), length-replicate (w - length p) noNumber)
 
+-- after its arcs it is blank
+formed-blank : (n : ℕ) → Formed (replicate n noNumber)
+formed-blank n i j le h e = getD-replicate n j noNumber 0 (omega (arith, length-replicate n noNumber))
+
+formed-cons : (a : ℕ) (l : List ℕ) → a < noNumber → Formed l → Formed (a ∷ l)
+formed-cons a l small f zero j le h e = absurd (omega (arith, e))
+formed-cons a l small f (suc i) zero le h e = absurd (omega arith)
+formed-cons a l small f (suc i) (suc j) le h e = f i j (omega arith) (omega arith) e
+
+arcs-formed : (p l : List ℕ) → ((a : ℕ) → List·Memᴰ a p → a < noNumber) → Formed l → Formed (p ++ l)
+arcs-formed [] l h f = f
+arcs-formed (a ∷ p) l h f = formed-cons a (p ++ l) (h a (List·Memᴰ·head refl)) (arcs-formed p l (λ b m. h b (List·Memᴰ·tail m)) f)
+
+pub slot-formed : (w : ℕ) (p : List ℕ) → ((a : ℕ) → List·Memᴰ a p → a < noNumber) → Formed (slotOf w p)
+slot-formed w p h = arcs-formed p (replicate (w - length p) noNumber) h (formed-blank (w - length p))
+
 -- ---- the arcs of a chain are the net's
 
 pub chain-arcs : (net : Net) (s : ℕ) (p : List ℕ) → T (chain net s p) → (a : ℕ) → List·Memᴰ a p → a < length (net .arcs)
@@ -73,13 +89,19 @@ module _ (q : Query) (earlier : List (List ℕ)) (v : Valid q) (few : length (q 
     long : length (slotOf (q .net .nodes - 1) p) ≡ q .net .nodes - 1
     long = length-slotOf (q .net .nodes - 1) p answered-short
 
-    pub here : routeIn (slot (q .net .nodes - 1) r (areaAfter (q .net .nodes - 1) r area (answered p n))) ≡ p
+    slot-here : slot (q .net .nodes - 1) r (areaAfter (q .net .nodes - 1) r area (answered p n)) ≡ slotOf (q .net .nodes - 1) p
     unfolding areaAfter
-    here = ap routeIn (slot-same (q .net .nodes - 1) r area (slotOf (q .net .nodes - 1) p) slots long) ∙ slot-route (q .net .nodes - 1) p answered-arcs
+    slot-here = slot-same (q .net .nodes - 1) r area (slotOf (q .net .nodes - 1) p) slots long
+
+    slot-there : (j : ℕ) → j < r → slot (q .net .nodes - 1) j (areaAfter (q .net .nodes - 1) r area (answered p n)) ≡ slot (q .net .nodes - 1) j area
+    unfolding areaAfter
+    slot-there j h = slot-other (q .net .nodes - 1) r j area (slotOf (q .net .nodes - 1) p) slots long (λ k. omega arith)
+
+    pub here : routeIn (slot (q .net .nodes - 1) r (areaAfter (q .net .nodes - 1) r area (answered p n))) ≡ p
+    here = ap routeIn slot-here ∙ slot-route (q .net .nodes - 1) p answered-arcs
 
     pub there : (j : ℕ) → j < r → routeIn (slot (q .net .nodes - 1) j (areaAfter (q .net .nodes - 1) r area (answered p n))) ≡ routeIn (slot (q .net .nodes - 1) j area)
-    unfolding areaAfter
-    there j h = ap routeIn (slot-other (q .net .nodes - 1) r j area (slotOf (q .net .nodes - 1) p) slots long (λ k. omega arith))
+    there j h = ap routeIn (slot-there j h)
 
     pub length-area : length (areaAfter (q .net .nodes - 1) r area (answered p n)) ≡ length area
     unfolding areaAfter
@@ -102,11 +124,19 @@ module _ (q : Query) (earlier : List (List ℕ)) (v : Valid q) (few : length (q 
         record {
           few = omega arith;
           slots = omega (arith, length-area, slots);
+          formed = λ j m. formed j (order r j) m;
           enough = omega (arith, length-set lens r (lengthOf (q .net .arcs) p));
           lengths = λ j m. lengths j (order r j) m;
           most = λ j m. most j (order r j) m;
         }
       where
+        formed : (j : ℕ) → (r ≤ j) ⊎ (j < r) → j < r + 1 → Formed (slot (q .net .nodes - 1) j (areaAfter (q .net .nodes - 1) r area (answered p n)))
+        formed j (inl a) m =
+            let z : r ≡ j = omega arith in
+            subst (λ y. Formed (slot (q .net .nodes - 1) y (areaAfter (q .net .nodes - 1) r area (answered p n)))) z
+            (subst Formed (sym slot-here) (slot-formed (q .net .nodes - 1) p answered-arcs))
+        formed j (inr a) m = subst Formed (sym (slot-there j a)) (k .formed j a)
+
         lengths : (j : ℕ) → (r ≤ j) ⊎ (j < r) → j < r + 1 → getD (set lens r (lengthOf (q .net .arcs) p)) j 0 ≡ lengthOf (q .net .arcs) (routeIn (slot (q .net .nodes - 1) j (areaAfter (q .net .nodes - 1) r area (answered p n))))
         lengths j (inl a) m =
             let z : r ≡ j = omega arith in

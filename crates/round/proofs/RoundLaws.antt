@@ -2,10 +2,10 @@
 -- search says it of its state's n labels, and as many labels are held; the answer is the chain of the last of them.
 use mathlib.Core.Path.{_≡_, refl, sym, ap, subst, _∙_}
 use mathlib.Core.Logic.{_≢_}
-use mathlib.Core.List.{List, [], _++_}
+use mathlib.Core.List.{List, []}
 use Prim.Native.Nat.{ℕ, zero, suc, pred, _+_, _-_, _*_, _≤_, _<_}
 use native.Mathlib.Omega.{arith}
-use lib.ListN.{length, getD, replicate, length-take}
+use lib.ListN.{length, getD, length-take}
 use lib.Seq.{getD-take}
 use Rattle.lists.proofs.LoopLaws.{length-map-upFrom}
 use borrow.Rule.Slice.PartMut.{putMid, midOf}
@@ -13,7 +13,7 @@ use Rattle.words.specs.Part.{patch}
 use Rattle.words.proofs.PartLaws.{back, lent}
 use Rattle.net.specs.Round.{Query, counted, Ending, answered, unanswered, refused}
 use Rattle.net.specs.Labels.{held}
-use Rattle.labels.specs.Field.{noNumber, lengthAt, overlapsAt}
+use Rattle.labels.specs.Field.{lengthAt, overlapsAt}
 use Rattle.labels.specs.Chain.{chainAt, chainsIn, labelAt, labelsIn, slotOf}
 use Rattle.labels.specs.Standing.{Standing}
 use Rattle.labels.specs.Rows.{overlapsOf, labelled}

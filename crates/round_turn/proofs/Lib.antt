@@ -1,3 +1,4 @@
+pub mod ListsLaws
 pub mod TurnLaws
 pub mod StageLaws
 pub mod EnterLaws

@@ -70,7 +70,7 @@ pub searched-standing : (q : Query) (earlier : List (List ℕ)) (l l′ : List �
 searched-standing q earlier l l′ y h = stage-standing (y .stage) q earlier l′ y (h .stage)
 
 -- a stage at which the search is over stays where only working bytes change
-over-stage : (k : ℕ) (q : Query) (earlier : List (List ℕ)) {l m : List ℕ} (y : State) → k ≢ 0 → Only 24 16 (y .n) l m → StageAt k q earlier l y → StageAt k q earlier m y
+over-stage : (k : ℕ) (q : Query) (earlier : List (List ℕ)) {l m : List ℕ} (y : State) → k ≢ 0 → Only 20 20 (y .n) l m → StageAt k q earlier l y → StageAt k q earlier m y
 over-stage zero q earlier y ne o h = absurd (ne refl)
 over-stage (suc zero) q earlier {l} {m} y ne o h =
     (h .0, subst (λ p. Over q earlier m (y .n) (answered p (y .n))) (sym (chain-only o (pred (y .n)))) (over-only o q earlier (y .n) (answered (chainAt l (pred (y .n))) (y .n)) (h .1)))
@@ -80,10 +80,10 @@ over-stage (suc (suc (suc k))) q earlier y ne o h = over-only o q earlier (y .n)
 pub finished : (q : Query) (earlier : List (List ℕ)) (l l′ : List ℕ) (y : State) → y .stage ≢ 0 → Searched q earlier l l′ y → (r : List ℕ) → r ≡ clearWork (y .n) l′ → Finished q earlier l r y
 unfolding chainsIn upFrom
 finished q earlier l l′ y ne h r e =
-    let o : Only 24 16 (y .n) l′ r = subst (Only 24 16 (y .n) l′) (sym e) (clear-only (y .n) l′) in
+    let o : Only 20 20 (y .n) l′ r = subst (Only 20 20 (y .n) l′) (sym e) (clear-only (y .n) l′) in
     record {
       stage = over-stage (y .stage) q earlier y ne o (h .stage);
       bytes = e
-          ∙ clear-same (y .n) (labelled (q .net) (q .s) earlier l (chainsIn l′ (y .n))) l′ (h .keeps l (subst (λ b. Only 24 16 0 b l) (sym (labelled-none (q .net) (q .s) earlier l)) (only-same 24 16 0 l)))
+          ∙ clear-same (y .n) (labelled (q .net) (q .s) earlier l (chainsIn l′ (y .n))) l′ (h .keeps l (subst (λ b. Only 20 20 0 b l) (sym (labelled-none (q .net) (q .s) earlier l)) (only-same 20 20 0 l)))
           ∙ ap (λ ps. clearWork (y .n) (labelled (q .net) (q .s) earlier l ps)) (sym (chains-only o (y .n)));
     }

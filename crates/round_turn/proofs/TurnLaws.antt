@@ -64,7 +64,7 @@ rowIn q earlier l c = rowFor (q .net .arcs) (q .s) l c (overlapsOf (q .net) earl
 
 -- ---- where only working bytes change
 
-module _ {k : ℕ} {l m : List ℕ} (o : Only 24 16 k l m) where
+module _ {k : ℕ} {l m : List ℕ} (o : Only 20 20 k l m) where
   pub chain-of-only : (c : Candidate) → chainOf m c ≡ chainOf l c
   chain-of-only c = ap (λ p. p ++ (c .arc ∷ [])) (chain-only o (c .label))
 
@@ -95,8 +95,8 @@ module _ {k : ℕ} {l m : List ℕ} (o : Only 24 16 k l m) where
         holds = labels-only o n ∙ h .holds;
       }
 
-keeps-only : (q : Query) (earlier : List (List ℕ)) (n : ℕ) {l m : List ℕ} → Only 24 16 n l m → Keeps q earlier l n m n
-keeps-only q earlier n {l} {m} o l₀ h = only-trans (subst (λ z. Only 24 16 n (labelled (q .net) (q .s) earlier l₀ z) l) (sym (chains-only o n)) h) o
+keeps-only : (q : Query) (earlier : List (List ℕ)) (n : ℕ) {l m : List ℕ} → Only 20 20 n l m → Keeps q earlier l n m n
+keeps-only q earlier n {l} {m} o l₀ h = only-trans (subst (λ z. Only 20 20 n (labelled (q .net) (q .s) earlier l₀ z) l) (sym (chains-only o n)) h) o
 
 module _ (q : Query) (earlier : List (List ℕ)) (v : Valid q) (l : List ℕ) (x : State) (g : Going q earlier l x) where
   pub inc : Increasing (guide q) (chainsIn l (x .n))
@@ -276,7 +276,7 @@ module _ (q : Query) (earlier : List (List ℕ)) (v : Valid q) (l : List ℕ) (x
             ∙ sym (labelled-more (q .net) (q .s) earlier l₀ (chainsIn l (x .n)) inc closed (c .label) (c .arc) in-list)
             ∙ ap (λ p. labelled (q .net) (q .s) earlier l₀ (chainsIn l (x .n) ++ ((p ++ (c .arc ∷ [])) ∷ []))) getD-label
             ∙ ap (labelled (q .net) (q .s) earlier l₀) (sym chains-up) in
-            subst (λ z. Only 24 16 (x .n + 1) z made) e (only-row h row (fits .few))
+            subst (λ z. Only 20 20 (x .n + 1) z made) e (only-row h row (fits .few))
 
         turn-taken-less : left (guide q) (q .net) (q .s) (q .room) (chainsIn made (x .n + 1)) (lastIn made c) < left (guide q) (q .net) (q .s) (q .room) (chainsIn l (x .n)) (lastIn l (x .last))
         turn-taken-less =
@@ -307,9 +307,9 @@ module _ (q : Query) (earlier : List (List ℕ)) (v : Valid q) (few : length ear
         holds = sym (ends-held q earlier v (guide q) [] (w .1));
       }
 
-  begin-going : (root : ℕ) → q .s < 2 ^ 16 → labelBytes ≤ length l → 1 ≤ q .room → q .s ≢ q .t → Going q earlier opened (record { n = 1; last = record { label = 0; arc = noNumber }; root = root; stage = 0 })
+  begin-going : q .s < 2 ^ 16 → labelBytes ≤ length l → 1 ≤ q .room → q .s ≢ q .t → Going q earlier opened (record { n = 1; last = record { label = 0; arc = noNumber }; root = 0; stage = 0 })
   unfolding endOf labels
-  begin-going root s bytes room apart =
+  begin-going s bytes room apart =
       record {
         standing = standing-first (q .net) (q .s) earlier l s bytes few;
         holding = holding-first (q .net) (q .s) earlier l s bytes few;
@@ -325,7 +325,7 @@ module _ (q : Query) (earlier : List (List ℕ)) (v : Valid q) (few : length ear
   unfolding chainsIn upFrom
   begin-keeps l₀ h =
       let row = emptyRow (q .net) (q .s) earlier in
-      subst (λ z. Only 24 16 1 z opened)
+      subst (λ z. Only 20 20 1 z opened)
       (ap (λ b. putRow b 0 row) (labelled-none (q .net) (q .s) earlier l₀) ∙ sym (labelled-first (q .net) (q .s) earlier l₀) ∙ ap (labelled (q .net) (q .s) earlier l₀) (sym (chains-first opened)))
       (only-row h row (omega (arith, length-overlapsOf (q .net) earlier [])))
 
@@ -333,14 +333,14 @@ module _ (q : Query) (earlier : List (List ℕ)) (v : Valid q) (few : length ear
   begun-refused e = record { long = refl; stage = begin-refused e; keeps = λ l₀ k. k }
 
   -- its cursor is set
-  pub begun-first : (l′ : List ℕ) (root : ℕ) → Only 24 16 1 opened l′ → Queued q earlier [] l′ 1 root → q .s < 2 ^ 16 → labelBytes ≤ length l → 1 ≤ q .room → q .s ≢ q .t
-      → Searched q earlier l l′ (record { n = 1; last = record { label = 0; arc = noNumber }; root = root; stage = 0 })
-  begun-first l′ root o qu s bytes room apart =
+  pub begun-first : (l′ : List ℕ) → Only 20 20 1 opened l′ → Queued q earlier [] l′ 1 0 → q .s < 2 ^ 16 → labelBytes ≤ length l → 1 ≤ q .room → q .s ≢ q .t
+      → Searched q earlier l l′ (record { n = 1; last = record { label = 0; arc = noNumber }; root = 0; stage = 0 })
+  begun-first l′ o qu s bytes room apart =
       record {
         long = o .long ∙ length-putRow l 0 (emptyRow (q .net) (q .s) earlier);
         stage = (
-          going-only o q earlier (record { n = 1; last = record { label = 0; arc = noNumber }; root = root; stage = 0 }) (begin-going root s bytes room apart),
-          subst (λ z. Queued q earlier z l′ 1 root) (sym (last-none l′ (record { label = 0; arc = noNumber }) refl)) qu,
+          going-only o q earlier (record { n = 1; last = record { label = 0; arc = noNumber }; root = 0; stage = 0 }) (begin-going s bytes room apart),
+          subst (λ z. Queued q earlier z l′ 1 0) (sym (last-none l′ (record { label = 0; arc = noNumber }) refl)) qu,
         );
         keeps = λ l₀ h. keeps-only q earlier 1 o l₀ (begin-keeps l₀ h);
       }
@@ -379,7 +379,7 @@ module _ (q : Query) (earlier : List (List ℕ)) (v : Valid q) (l : List ℕ) (x
     looked = rw is (queued-looked q earlier (lastIn l (x .last)) l (x .n) (x .root) (g .standing) len-most qu (inc q earlier v l x g) found)
 
     -- it is dropped, and the root's cursor moves on
-    pub turned-dropped : passes q earlier (chainsIn l (x .n)) (chainOf l c) ≡ false → (l′ : List ℕ) (k : ℕ) → Only 24 16 (x .n) l l′ → Queued q earlier (chainOf l c) l′ (x .n) k
+    pub turned-dropped : passes q earlier (chainsIn l (x .n)) (chainOf l c) ≡ false → (l′ : List ℕ) (k : ℕ) → Only 20 20 (x .n) l l′ → Queued q earlier (chainOf l c) l′ (x .n) k
         → Turned q earlier l x l′ (record { n = x .n; last = c; root = k; stage = 0 })
     turned-dropped e l′ k o qu′ =
         record {
@@ -393,13 +393,13 @@ module _ (q : Query) (earlier : List (List ℕ)) (v : Valid q) (l : List ℕ) (x
         }
 
     module _ (passed : passes q earlier (chainsIn l (x .n)) (chainOf l c) ≡ true) where
-      pub turned-refused : q .room ≤ x .n → Turned q earlier l x l (record { n = x .n; last = x .last; root = x .root; stage = 3 })
-      turned-refused h =
+      pub turned-refused : q .room ≤ x .n → (m : List ℕ) → Only 20 20 (x .n) l m → Turned q earlier l x m (record { n = x .n; last = x .last; root = x .root; stage = 3 })
+      turned-refused h m o =
           record {
-            long = refl;
-            stage = turn-refused q earlier v l x g c points real (x .root) first passed h;
-            keeps = λ l₀ e. e;
-            less = omega arith;
+            long = o .long;
+            stage = over-only o q earlier (x .n) refused (turn-refused q earlier v l x g c points real (x .root) first passed h);
+            keeps = keeps-only q earlier (x .n) o;
+            less = rw (chains-only o (x .n), last-only o (x .last)) (omega arith);
           }
 
       module _ (roomy : Roomy q l (x .n)) where
@@ -418,20 +418,8 @@ module _ (q : Query) (earlier : List (List ℕ)) (v : Valid q) (l : List ℕ) (x
             (subst (λ z. T (before (guide q) z (chainOf l c))) e
             (at-most-then (guide q) (chainAt l i) (lastIn l (x .last)) (chainOf l c) (upTo-e q earlier v (guide q) (lastIn l (x .last)) (chainAt l i) m .1) (first .is-candidate .after)))
 
-        -- taken up as an answer
-        pub turned-answer : endOf (q .net .arcs) (q .s) (chainOf l c) ≡ q .t → (l′ : List ℕ) → l′ ≡ putRow l (x .n) (rowIn q earlier l c)
-            → Turned q earlier l x l′ (record { n = x .n + 1; last = c; root = x .root; stage = 1 })
-        turned-answer e l′ put =
-            subst (λ b. Turned q earlier l x b (record { n = x .n + 1; last = c; root = x .root; stage = 1 })) (sym put)
-            (record {
-              long = length-putRow l (x .n) (rowIn q earlier l c);
-              stage = (λ z. omega arith, turn-answer q earlier v l x g c points real (x .root) first passed roomy arc-below e);
-              keeps = turn-keeps q earlier v l x g c points real (x .root) first passed roomy arc-below;
-              less = omega (arith, turn-taken-less q earlier v l x g c points real (x .root) first passed roomy arc-below);
-            })
-
-        -- taken up, after the root's cursor moved on: m are the bytes between
-        module _ (m : List ℕ) (o : Only 24 16 (x .n) l m) where
+        -- taken up, after the root's cursor moved on: m are the bytes then
+        module _ (m : List ℕ) (o : Only 20 20 (x .n) l m) where
           first-between : Foremost q earlier (guide q) (chainsIn m (x .n)) (lastIn m (x .last)) (chainOf m c)
           first-between = rw (chains-only o (x .n), last-only o (x .last), chain-only o (x .root)) first
 
@@ -449,27 +437,39 @@ module _ (q : Query) (earlier : List (List ℕ)) (v : Valid q) (l : List ℕ) (x
                 len-most = len-most;
               }
 
-          pub turned-taken : endOf (q .net .arcs) (q .s) (chainOf l c) ≢ q .t → (l′ : List ℕ) (k : ℕ) → Only 24 16 (x .n + 1) (putRow m (x .n) (rowIn q earlier m c)) l′
+          going-between : Going q earlier m x
+          going-between = going-only o q earlier x g
+
+          less-between : left (guide q) (q .net) (q .s) (q .room) (chainsIn m (x .n)) (lastIn m (x .last)) ≡ left (guide q) (q .net) (q .s) (q .room) (chainsIn l (x .n)) (lastIn l (x .last))
+          less-between = rw (chains-only o (x .n), last-only o (x .last))
+
+          pub turned-answer : endOf (q .net .arcs) (q .s) (chainOf l c) ≡ q .t → (l′ : List ℕ) → l′ ≡ putRow m (x .n) (rowIn q earlier m c)
+              → Turned q earlier l x l′ (record { n = x .n + 1; last = c; root = x .root; stage = 1 })
+          turned-answer e l′ put =
+              let e′ = subst (λ z. endOf (q .net .arcs) (q .s) z ≡ q .t) (sym (chain-of-only o c)) e in
+              subst (λ b. Turned q earlier l x b (record { n = x .n + 1; last = c; root = x .root; stage = 1 })) (sym put)
+              (record {
+                long = length-putRow m (x .n) (rowIn q earlier m c) ∙ o .long;
+                stage = (λ z. omega arith, turn-answer q earlier v m x going-between c points real (x .root) first-between passed-between roomy-between arc-below e′);
+                keeps = λ l₀ h. turn-keeps q earlier v m x going-between c points real (x .root) first-between passed-between roomy-between arc-below l₀ (keeps-only q earlier (x .n) o l₀ h);
+                less = omega (arith, turn-taken-less q earlier v m x going-between c points real (x .root) first-between passed-between roomy-between arc-below, less-between);
+              })
+
+          pub turned-taken : endOf (q .net .arcs) (q .s) (chainOf l c) ≢ q .t → (l′ : List ℕ) (k : ℕ) → Only 20 20 (x .n + 1) (putRow m (x .n) (rowIn q earlier m c)) l′
               → Queued q earlier (chainOf l c) l′ (x .n + 1) k → Turned q earlier l x l′ (record { n = x .n + 1; last = c; root = k; stage = 0 })
           turned-taken far l′ k f qu′ =
-              let g′ = going-only o q earlier x g in
               let far′ = subst (λ z. endOf (q .net .arcs) (q .s) z ≢ q .t) (sym (chain-of-only o c)) far in
               let last-is : lastIn l′ c ≡ chainOf l c =
-              last-only f c ∙ last-up q earlier v m x g′ c points real k first-between passed-between roomy-between arc-below ∙ chain-of-only o c in
-              let less′ = turn-taken-less q earlier v m x g′ c points real k first-between passed-between roomy-between arc-below in
+              last-only f c ∙ last-up q earlier v m x going-between c points real k first-between passed-between roomy-between arc-below ∙ chain-of-only o c in
+              let less′ = turn-taken-less q earlier v m x going-between c points real k first-between passed-between roomy-between arc-below in
               record {
                 long = f .long ∙ length-putRow m (x .n) (rowIn q earlier m c) ∙ o .long;
                 stage = (
-                  going-only f q earlier (record { n = x .n + 1; last = c; root = k; stage = 0 }) (turn-taken q earlier v m x g′ c points real k first-between passed-between roomy-between arc-below far′),
+                  going-only f q earlier (record { n = x .n + 1; last = c; root = k; stage = 0 }) (turn-taken q earlier v m x going-between c points real k first-between passed-between roomy-between arc-below far′),
                   subst (λ z. Queued q earlier z l′ (x .n + 1) k) (sym last-is) qu′,
                 );
                 keeps = λ l₀ h. keeps-only q earlier (x .n + 1) f l₀
-                    (turn-keeps q earlier v m x g′ c points real k first-between passed-between roomy-between arc-below l₀ (keeps-only q earlier (x .n) o l₀ h));
+                    (turn-keeps q earlier v m x going-between c points real k first-between passed-between roomy-between arc-below l₀ (keeps-only q earlier (x .n) o l₀ h));
                 less = rw (chains-only f (x .n + 1), last-only f c)
-                    (omega (
-                      arith,
-                      less′,
-                      ap (λ z. left (guide q) (q .net) (q .s) (q .room) z (lastIn m (x .last))) (chains-only o (x .n)),
-                      ap (left (guide q) (q .net) (q .s) (q .room) (chainsIn l (x .n))) (last-only o (x .last)),
-                    ));
+                    (omega (arith, less′, less-between));
               }

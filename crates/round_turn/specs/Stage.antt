@@ -20,7 +20,7 @@ use Rattle.search_ask.specs.declared.Candidate.{Candidate}
 use Rattle.search_ask.specs.Ask.{Accepted, Points, roomIn, width, chainOf, lastIn}
 use Rattle.search_ask.specs.Earlier.{Earlier}
 use Rattle.search_queue.specs.Only.{Only}
-use Rattle.search_cursor.specs.Queue.{Queued, QueuedBut}
+use Rattle.search_cursor.specs.Queue.{Queued}
 use Rattle.search_clear.specs.Clear.{clearWork}
 use Rattle.round_turn.specs.declared.State.{State}
 
@@ -72,16 +72,16 @@ leftIn q labels x = left (guide q) (q .net) (q .s) (q .room) (chainsIn labels (x
 -- The bytes stay those of the chains taken up, but for their labels' working bytes, over any bytes l of which they were so.
 abbrev pub Keeps : Query → List (List ℕ) → List ℕ → ℕ → List ℕ → ℕ → Type 0
 Keeps q earlier labels n labels′ n′ =
-    (l : List ℕ) → Only 24 16 n (labelled (q .net) (q .s) earlier l (chainsIn labels n)) labels → Only 24 16 n′ (labelled (q .net) (q .s) earlier l (chainsIn labels′ n′)) labels′
+    (l : List ℕ) → Only 20 20 n (labelled (q .net) (q .s) earlier l (chainsIn labels n)) labels → Only 20 20 n′ (labelled (q .net) (q .s) earlier l (chainsIn labels′ n′)) labels′
 
 -- The row of a candidate's label, with its overlaps.
 abbrev pub rowFor : List Arc → ℕ → List ℕ → Candidate → List ℕ → Row
 rowFor arcs s labels c own =
     record { last-arc = c .arc; extends = c .label; len = lengthOf arcs (chainOf labels c); end = endOf arcs s (chainOf labels c); overlaps = own }
 
--- What taking the first candidate up as label n asks: room, its overlaps, limits that its fields keep, that no label has its chain, and that the queue is right but
--- for the label that it extends.
-pub record Entering (q : Query) (earlier : List (List ℕ)) (labels : List ℕ) (n : ℕ) (c : Candidate) (own : List ℕ) : Type 0 where
+-- What taking a candidate up as label n asks: room, its overlaps, limits that its fields keep, that no label has its chain, that it does not end at s, and that
+-- the queue is right after it.
+pub record Entering (q : Query) (earlier : List (List ℕ)) (labels : List ℕ) (n : ℕ) (c : Candidate) (own : List ℕ) (root : ℕ) : Type 0 where
   pub begun : n ≢ 0
   pub few : n < mostLabels
   pub room : n * labelBytes + labelBytes ≤ length labels
@@ -89,13 +89,12 @@ pub record Entering (q : Query) (earlier : List (List ℕ)) (labels : List ℕ) 
   pub short : length (chainOf labels c) < mostNodes
   pub most : lengthOf (q .net .arcs) (chainOf labels c) ≤ mostNodes * mostLength
   pub fresh : (i : ℕ) → i < n → chainAt labels i ≢ chainOf labels c
-  pub queued : QueuedBut q earlier (chainOf labels c) labels n (c .label)
+  pub away : endOf (q .net .arcs) (q .s) (chainOf labels c) ≢ q .s
+  pub queued : Queued q earlier (chainOf labels c) labels n root
 
--- What it does: the cursor of the label that the candidate extends moves on, the candidate's row is put, and its cursor is set. Label y's candidate is then the first.
+-- What it does: the candidate's row is put, and its cursor is set. Label y's candidate is then the first.
 pub record Entered (q : Query) (earlier : List (List ℕ)) (labels : List ℕ) (n : ℕ) (c : Candidate) (labels′ : List ℕ) (y : ℕ) : Type 0 where
-  pub between : List ℕ
-  pub moved : Only 24 16 n labels between
-  pub put : Only 24 16 (n + 1) (putRow between n (rowFor (q .net .arcs) (q .s) between c (overlapsOf (q .net) earlier (chainOf between c)))) labels′
+  pub put : Only 20 20 (n + 1) (putRow labels n (rowFor (q .net .arcs) (q .s) labels c (overlapsOf (q .net) earlier (chainOf labels c)))) labels′
   pub queued : Queued q earlier (chainOf labels c) labels′ (n + 1) y
 
 -- What a turn does.

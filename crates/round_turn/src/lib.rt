@@ -12,13 +12,16 @@ ghost use lib.ListN.{length};
 ghost use Rattle.net.specs.Limits.{mostLabels};
 ghost use Rattle.table.specs.Table.{arcsOf};
 ghost use Rattle.labels.specs.Field.{labelBytes, mostEarlier, putRow};
-ghost use Rattle.search_ask.specs.Ask.{Searching, Among, queryFor, lastIn};
+ghost use Rattle.search_ask.specs.Ask.{Searching, Among, width, queryFor, lastIn};
 ghost use Rattle.search_ask.specs.Earlier.{earlierOf};
 ghost use Rattle.search_driven.specs.Marks.{Filter};
+ghost use Rattle.search_lists.specs.Listed.{Listed};
+ghost use Rattle.search_lists.specs.Run.{Runs};
 ghost use Rattle.search_cursor.specs.Own.{Judging};
 ghost use Rattle.search_cursor.specs.Queue.{Queued};
 ghost use Rattle.round_turn.specs.Stage.{Ready, Going, rowFor, Entering, Entered};
 ghost use Rattle.round_turn.specs.Stage.{Turned, Searched, Finished};
+ghost use Rattle.round_turn.specs.Lists.{Blank, ButSlot, Listing};
 
 // How many labels are taken up, the candidate last looked at, the label whose candidate is the
 // first of all, and the stage.
@@ -54,47 +57,48 @@ fn take_up(table: &[u8], ask: Ask, labels: &mut [u8], n: usize, c: Candidate, ow
     labels::field::put_overlaps(labels, n, own);
 }
 
-// The first candidate of all becomes label n: the cursor of the label that it extends moves on, and
-// label n's is set. The label whose candidate is then the first.
+// The candidate becomes label n, after the cursor of the label that it extends moved on and label
+// `root`'s candidate is the first: label n's cursor is set, after it came into its list. The label
+// whose candidate is then the first.
 fn enter(
     table: &[u8],
     closed: &[u8],
     ask: Ask,
-    area: &[u32],
+    area: &mut [u32],
     lens: &[u64],
     marks: &[u64],
     labels: &mut [u8],
     n: usize,
     c: Candidate,
     own: &[u64],
+    root: usize,
 ) -> usize
     requires { ⌜ (Judging ask (now table) (now area) (now lens) (now marks) (now labels) n)
         × (Among (now table) n c)
         × (Entering (queryFor ask (now table) (now closed) (now labels))
-        (earlierOf ask (now area) (now lens)) (now labels) n c (now own)) ⌝ }
-    ensures { λ y. ⌜ Entered (queryFor ask (now (table .entry)) (now (closed .entry))
+        (earlierOf ask (now area) (now lens)) (now labels) n c (now own) root) ⌝ }
+    ensures { λ y. ⌜ (Entered (queryFor ask (now (table .entry)) (now (closed .entry))
         (now (labels .entry)))
         (earlierOf ask (now (area .entry)) (now (lens .entry)))
-        (now (labels .entry)) n c (now (labels .exit)) y ⌝ }
+        (now (labels .entry)) n c (now (labels .exit)) y)
+        × (ButSlot (width ask) (length (now (lens .entry))) (now (area .entry)) (now (area .exit)))
+        × (Listed ask (length (now (lens .entry))) (now (area .exit)) (now (labels .exit))
+        (n + 1))
+        × (Runs (now (table .entry)) (now (labels .exit)) (n + 1)) ⌝ }
 {
-    let label = c.label;
-    let arc = c.arc;
-    let old = Place {
-        n: n,
-        label: label,
-        from: arc,
-    };
-    let k = search_cursor::settle::settle(table, closed, ask, area, lens, marks, labels, old);
     take_up(table, ask, labels, n, c, own);
-    search_cursor::settle::enter(table, closed, ask, area, lens, marks, labels, n, k)
+    search_lists::start(table, ask, lens.len(), area, labels, n);
+    search_lists::enlist(ask, lens.len(), area, labels, n);
+    search_cursor::settle::enter(table, closed, ask, area, lens, marks, labels, n, root)
 }
 
-// One turn. `marks` is the filter over the earlier answers.
+// One turn: the root's candidate is tested, and whatever comes of it the root's cursor moves on.
+// `marks` is the filter over the earlier answers.
 fn turn(
     table: &[u8],
     closed: &[u8],
     ask: Ask,
-    area: &[u32],
+    area: &mut [u32],
     lens: &[u64],
     marks: &[u64],
     labels: &mut [u8],
@@ -106,11 +110,15 @@ fn turn(
         × (Queued (queryFor ask (now table) (now closed) (now labels))
         (earlierOf ask (now area) (now lens)) (lastIn (now labels) (x .last)) (now labels)
         (x .n) (x .root))
-        × (Filter (now table) (earlierOf ask (now area) (now lens)) (now marks)) ⌝ }
-    ensures { λ y. ⌜ Turned (queryFor ask (now (table .entry)) (now (closed .entry))
+        × (Filter (now table) (earlierOf ask (now area) (now lens)) (now marks))
+        × (Listed ask (length (now lens)) (now area) (now labels) (x .n))
+        × (Runs (now table) (now labels) (x .n)) ⌝ }
+    ensures { λ y. ⌜ (Turned (queryFor ask (now (table .entry)) (now (closed .entry))
         (now (labels .entry)))
         (earlierOf ask (now (area .entry)) (now (lens .entry)))
-        (now (labels .entry)) x (now (labels .exit)) y ⌝ }
+        (now (labels .entry)) x (now (labels .exit)) y)
+        × (Listing ask (now (table .entry)) (length (now (lens .entry))) (now (area .entry))
+        (now (area .exit)) (now (labels .exit)) y) ⌝ }
 {
     let n = x.n;
     let last = x.last;
@@ -133,13 +141,15 @@ fn turn(
     let mut own = [0u64; labels::field::MOST_EARLIER];
     search_trial::overlap::of_candidate(table, ask, area, marks, labels, trial, &mut own);
     let end = table::arc::to_of(table, arc);
-    if !search_trial::passes(ask, lens, labels, n, end, &own[0..r]) {
-        let place = Place {
-            n: n,
-            label: root,
-            from: arc,
-        };
-        let k = search_cursor::settle::settle(table, closed, ask, area, lens, marks, labels, place);
+    let pass = search_trial::passes(ask, area, lens, labels, n, end, &own[0..r]);
+    let room = labels.len() / labels::field::LABEL;
+    let place = Place {
+        n: n,
+        label: root,
+        from: arc,
+    };
+    let k = search_cursor::settle::settle(table, closed, ask, area, lens, marks, labels, place);
+    if !pass {
         return State {
             n: n,
             last: c,
@@ -147,7 +157,7 @@ fn turn(
             stage: GOING,
         };
     }
-    if labels.len() / labels::field::LABEL <= n {
+    if room <= n {
         return State {
             n: n,
             last: last,
@@ -165,7 +175,7 @@ fn turn(
             stage: ANSWER,
         };
     }
-    let k = enter(
+    let new = enter(
         table,
         closed,
         ask,
@@ -176,11 +186,12 @@ fn turn(
         n,
         c,
         &own[0..r],
+        k,
     );
     State {
         n: n + 1,
         last: c,
-        root: k,
+        root: new,
         stage: GOING,
     }
 }
@@ -196,11 +207,14 @@ fn begin(
     labels: &mut [u8],
 ) -> State
     requires { ⌜ (Ready ask (now table) (now area) (now lens) (now labels))
-        × (Filter (now table) (earlierOf ask (now area) (now lens)) (now marks)) ⌝ }
-    ensures { λ y. ⌜ Searched (queryFor ask (now (table .entry)) (now (closed .entry))
+        × (Filter (now table) (earlierOf ask (now area) (now lens)) (now marks))
+        × (Blank (width ask) (length (now lens)) (now area)) ⌝ }
+    ensures { λ y. ⌜ (Searched (queryFor ask (now (table .entry)) (now (closed .entry))
         (now (labels .entry)))
         (earlierOf ask (now (area .entry)) (now (lens .entry)))
-        (now (labels .entry)) (now (labels .exit)) y ⌝ }
+        (now (labels .entry)) (now (labels .exit)) y)
+        × (Listing ask (now (table .entry)) (length (now (lens .entry))) (now (area .entry))
+        (now (area .entry)) (now (labels .exit)) y) ⌝ }
 {
     let none = Candidate {
         label: 0,
@@ -218,17 +232,14 @@ fn begin(
     let zeros = [0u64; labels::field::MOST_EARLIER];
     labels::field::put_head(labels, 0, labels::field::NONE, 0, 0, s as u16);
     labels::field::put_overlaps(labels, 0, &zeros[0..lens.len()]);
-    let n = 1;
-    let place = Place {
-        n: n,
-        label: 0,
-        from: search_ask::NO_ARC,
-    };
-    let k = search_cursor::settle::settle(table, closed, ask, area, lens, marks, labels, place);
+    let first = table::run::run_start(table, ask.nodes, s);
+    search_lists::run::put_run(labels, 0, first as u32);
+    search_lists::begin(ask, lens.len(), area, labels);
+    search_cursor::settle::begin(table, closed, ask, area, lens, marks, labels);
     State {
-        n: n,
+        n: 1,
         last: none,
-        root: k,
+        root: 0,
         stage: GOING,
     }
 }
@@ -238,15 +249,18 @@ fn turns(
     table: &[u8],
     closed: &[u8],
     ask: Ask,
-    area: &[u32],
+    area: &mut [u32],
     lens: &[u64],
     labels: &mut [u8],
 ) -> State
-    requires { ⌜ Ready ask (now table) (now area) (now lens) (now labels) ⌝ }
+    requires { ⌜ (Ready ask (now table) (now area) (now lens) (now labels))
+        × (Blank (width ask) (length (now lens)) (now area)) ⌝ }
     ensures { λ y. ⌜ (y .stage ≢ 0)
         × (Searched (queryFor ask (now (table .entry)) (now (closed .entry)) (now (labels .entry)))
         (earlierOf ask (now (area .entry)) (now (lens .entry)))
-        (now (labels .entry)) (now (labels .exit)) y) ⌝ }
+        (now (labels .entry)) (now (labels .exit)) y)
+        × (ButSlot (width ask) (length (now (lens .entry))) (now (area .entry))
+        (now (area .exit))) ⌝ }
 {
     let mut marks = [0u64; search_driven::marks::WORDS];
     search_driven::marks::mark_earlier(table, ask, area, lens.len(), &mut marks);
@@ -258,23 +272,29 @@ fn turns(
 }
 
 // All turns of a round after the earlier answers, whose lengths are `lens`, over the arcs that are
-// not closed. Then the working bytes of its labels are zero again.
+// not closed. Then the working bytes of its labels are zero again, and its slot is blank again.
 pub fn search(
     table: &[u8],
     closed: &[u8],
     ask: Ask,
-    area: &[u32],
+    area: &mut [u32],
     lens: &[u64],
     labels: &mut [u8],
 ) -> State
-    requires { ⌜ Ready ask (now table) (now area) (now lens) (now labels) ⌝ }
+    requires { ⌜ (Ready ask (now table) (now area) (now lens) (now labels))
+        × (Blank (width ask) (length (now lens)) (now area)) ⌝ }
     ensures { λ y. ⌜ (y .stage ≢ 0)
         × (Finished (queryFor ask (now (table .entry)) (now (closed .entry)) (now (labels .entry)))
         (earlierOf ask (now (area .entry)) (now (lens .entry)))
-        (now (labels .entry)) (now (labels .exit)) y) ⌝ }
+        (now (labels .entry)) (now (labels .exit)) y)
+        × (now (area .exit) ≡ now (area .entry)) ⌝ }
 {
     let x = turns(table, closed, ask, area, lens, labels);
     let n = x.n;
     search_clear::clear_work(labels, n);
+    let w = ask.nodes as usize - 1;
+    let from = lens.len() * w;
+    let to = from + w;
+    words::fill::fill32_part(area, from, to, labels::field::NONE);
     x
 }

@@ -24,10 +24,15 @@ unfoldable pub earlierIn : ℕ → ℕ → List ℕ → List (List ℕ)
 unfolding routeIn slot upFrom
 earlierIn w r area = map (λ j. routeIn (slot w j area)) (upFrom 0 r)
 
+-- After a word that is blank a slot has only such.
+abbrev pub Formed : List ℕ → Type 0
+Formed words = (i j : ℕ) → i ≤ j → j < length words → getD words i 0 ≡ noNumber → getD words j 0 ≡ noNumber
+
 -- The r earlier answers have their slots and their lengths.
 pub record Earlier (arcs : List Arc) (w r : ℕ) (area lens : List ℕ) : Type 0 where
   pub few : r ≤ mostRoutes
   pub slots : r * w ≤ length area
+  pub formed : (j : ℕ) → j < r → Formed (slot w j area)
   pub enough : r ≤ length lens
   pub lengths : (j : ℕ) → j < r → getD lens j 0 ≡ lengthOf arcs (routeIn (slot w j area))
   pub most : (j : ℕ) → j < r → getD lens j 0 ≤ mostNodes * mostLength

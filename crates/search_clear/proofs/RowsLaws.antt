@@ -75,7 +75,7 @@ or-right : (a b : Bool) → b ≡ true → (a || b) ≡ true
 or-right true b h = refl
 or-right false b h = h
 
-module _ {n : ℕ} {l m : List ℕ} (f : Only 24 16 n l m) (x : Row) where
+module _ {n : ℕ} {l m : List ℕ} (f : Only 20 20 n l m) (x : Row) where
   depth-of-only : (i e : ℕ) → depthOf m i e ≡ depthOf l i e
   unfolding depthOf
   depth-of-only zero e = refl
@@ -91,7 +91,7 @@ module _ {n : ℕ} {l m : List ℕ} (f : Only 24 16 n l m) (x : Row) where
       (puts-agree (x .overlaps) (at + headBytes)
       (put-agree 2 (at + 18) depth (put-agree 2 (at + 16) (x .end) (put-agree 8 (at + 8) (x .len) (put-agree 2 (at + 6) far (put-agree 2 (at + 4) (x .extends) (put-agree 4 (at + 0) (x .last-arc) h)))))))
 
-  pub only-row : length (x .overlaps) ≤ mostEarlier → Only 24 16 (n + 1) (putRow l n x) (putRow m n x)
+  pub only-row : length (x .overlaps) ≤ mostEarlier → Only 20 20 (n + 1) (putRow l n x) (putRow m n x)
   only-row few =
       record {
         long = length-putRow m n x ∙ f .long ∙ sym (length-putRow l n x);
@@ -100,14 +100,14 @@ module _ {n : ℕ} {l m : List ℕ} (f : Only 24 16 n l m) (x : Row) where
         past = drop-putRow m n x few ((n + 1) * labelBytes) (omega arith) ∙ later ∙ sym (drop-putRow l n x few ((n + 1) * labelBytes) (omega arith));
       }
     where
-      byte : (i j p d : ℕ) → apart 24 16 p j ≡ true → leb (p + j) labelBytes ≡ true → d < j → getD m (i * labelBytes + p + d) 0 ≡ getD l (i * labelBytes + p + d) 0
+      byte : (i j p d : ℕ) → apart 20 20 p j ≡ true → leb (p + j) labelBytes ≡ true → d < j → getD m (i * labelBytes + p + d) 0 ≡ getD l (i * labelBytes + p + d) 0
       byte i j p d a b h =
           rw (add-assoc (i * labelBytes) p d)
           (sym (byte-of m (i * labelBytes + (p + d)))
           ∙ f .field 1 i (p + d)
-          (⊎-elim (λ z. or-left (leb (p + d + 1) 24) (leb 40 (p + d)) (le-leb (p + d + 1) 24 (omega (arith, leb-true (p + j) 24 z))))
-          (λ z. or-right (leb (p + d + 1) 24) (leb 40 (p + d)) (le-leb 40 (p + d) (omega (arith, leb-true 40 p z))))
-          (or-cases (leb (p + j) 24) (leb 40 p) a)) (le-leb (p + d + 1) labelBytes (omega (arith, leb-true (p + j) labelBytes b)))
+          (⊎-elim (λ z. or-left (leb (p + d + 1) 20) (leb 40 (p + d)) (le-leb (p + d + 1) 20 (omega (arith, leb-true (p + j) 20 z))))
+          (λ z. or-right (leb (p + d + 1) 20) (leb 40 (p + d)) (le-leb 40 (p + d) (omega (arith, leb-true 40 p z))))
+          (or-cases (leb (p + j) 20) (leb 40 p) a)) (le-leb (p + d + 1) labelBytes (omega (arith, leb-true (p + j) labelBytes b)))
           ∙ byte-of l (i * labelBytes + (p + d)))
 
       later : drop ((n + 1) * labelBytes) m ≡ drop ((n + 1) * labelBytes) l

@@ -5,7 +5,7 @@ ghost use lib.ListN.{length};
 ghost use Rattle.labels.specs.Field.{labelBytes};
 ghost use Rattle.search_clear.specs.Clear.{clearWork};
 
-const WORKING: usize = 24;
+const WORKING: usize = 20;
 
 // Those of the first n labels.
 pub fn clear_work(labels: &mut [u8], n: usize)
@@ -15,8 +15,9 @@ pub fn clear_work(labels: &mut [u8], n: usize)
     let mut i = 0;
     while i < n {
         let at = i * labels::field::LABEL + WORKING;
-        words::number::write64(labels, at, 0);
-        words::number::write64(labels, at + 8, 0);
+        words::number::write32(labels, at, 0);
+        words::number::write64(labels, at + 4, 0);
+        words::number::write64(labels, at + 12, 0);
         i += 1;
     }
 }

@@ -1,6 +1,6 @@
 -- A label that has come in leaves the cursors, keys and winners of the labels before it, and their order. What failed a test fails it still, so their cursors are
 -- right with its chain taken up.
-use mathlib.Core.Path.{_≡_}
+use mathlib.Core.Path.{_≡_, refl, sym, subst}
 use mathlib.Core.List.{List, [], _∷_, _++_, Memᴰ·append-left}
 use Prim.Native.Nat.{ℕ, _+_, _*_, _≤_, _<_}
 use native.Mathlib.Omega.{arith}
@@ -11,12 +11,15 @@ use Rattle.labels.specs.Field.{labelBytes, Row, putRow}
 use Rattle.labels.specs.Chain.{chainAt, chainsIn}
 use Rattle.labels.specs.Standing.{Down}
 use Rattle.labels.proofs.StoreLaws.{Fits, as-before, chain-other, chains-more}
-use Rattle.search_tree.proofs.TreeLaws.{side-pos}
+use Rattle.search_tree.proofs.TreeLaws.{first-below, tree-below}
 use Rattle.search_ahead.proofs.CursorLaws.{cursor-more}
-use Rattle.search_queue.specs.Working.{cursorAt}
+use Rattle.search_queue.specs.Working.{cursorAt, winnerAt, keyAt}
+use Rattle.search_queue.specs.Only.{Only}
+use Rattle.search_queue.specs.Order.{ownAt, sooner, NotAfter}
+use Rattle.search_queue.proofs.OnlyLaws.{only-wide, chain-only, chains-only}
 use Rattle.search_queue.proofs.QueueLaws.{tree-row, first-row}
 use Rattle.search_cursor.specs.Own.{arcIn}
-use Rattle.search_cursor.specs.Queue.{Queued, QueuedBut, QueuedBehind}
+use Rattle.search_cursor.specs.Queue.{Kept, Queued, QueuedBehind}
 use Rattle.search_cursor.proofs.QueueLaws.{kept-carried}
 
 -- label n has come in
@@ -38,7 +41,24 @@ queued-behind q earlier last l n w x down room f ne low qu =
       root = first-row l x down (qu .root);
     }
 
--- the first label has come in
-pub queued-begun : (q : Query) (earlier : List (List ℕ)) (last l : List ℕ) → QueuedBut q earlier last l 1 0
-queued-begun q earlier last l =
-    record { kept = λ i h d. absurd (d (omega arith)); tree = record { joins = λ k i u d. absurd (omega (arith, side-pos k, u)) } }
+-- where a link changed, or a run was put
+pub link-working : {k : ℕ} {l m : List ℕ} → Only 30 2 k l m → Only 20 20 k l m
+link-working o = only-wide 30 2 o refl refl
+
+pub run-working : {k : ℕ} {l m : List ℕ} → Only 20 4 k l m → Only 20 20 k l m
+run-working o = only-wide 20 4 o refl refl
+
+module _ {k : ℕ} {l m : List ℕ} (o : Only 20 20 k l m) (cursors : (i : ℕ) → cursorAt m i ≡ cursorAt l i) (keys : (i : ℕ) → keyAt m i ≡ keyAt l i) (winners : (i : ℕ) → winnerAt m i ≡ winnerAt l i) where
+  not-after-linked : (i j : ℕ) → NotAfter l i j → NotAfter m i j
+  unfolding NotAfter sooner ownAt
+  not-after-linked i j h =
+      rw (keys i, keys j, chain-only o i, chain-only o j, cursors i, cursors j) h
+
+  pub queued-linked : (q : Query) (earlier : List (List ℕ)) (last : List ℕ) (n w : ℕ) → QueuedBehind q earlier last l n w → QueuedBehind q earlier last m n w
+  queued-linked q earlier last n w qu =
+      record {
+        kept = λ i h. subst (λ z. Kept q earlier z last m i) (sym (chains-only o (n + 1)))
+            (kept-carried q earlier (chainsIn l (n + 1)) last l m i (chain-only o i) (cursors i) (keys i) (qu .kept i h));
+        tree = tree-below (NotAfter l) (NotAfter m) n (λ i j hi hj. not-after-linked i j) (winnerAt l) (winnerAt m) (λ j h. winners j) (qu .tree);
+        root = first-below (NotAfter l) (NotAfter m) n (λ i j hi hj. not-after-linked i j) (qu .root);
+      }

@@ -1,7 +1,7 @@
--- A cursor's tests, from bytes to the theory: a chain's own candidates come in the order of their last arcs, the open arcs that leave its end are those of its
--- node's run from each to the next, and one look at an arc makes the cursor right one arc further.
+-- A cursor's tests, from bytes to the theory: a chain's own candidates come in the order of their last arcs, the arcs that leave its end are those of its node's
+-- run that are open, and one look at an arc makes the cursor right one arc further.
 use mathlib.Core.Path.{_≡_, refl, sym, subst, ap, _∙_}
-use mathlib.Core.Logic.{_≢_}
+use mathlib.Core.Logic.{_≢_, ⊎-elim}
 use mathlib.Core.Bool.{Bool, true, false, _&&_}
 use mathlib.Core.List.{List, [], _∷_, _++_}
 use mathlib.Core.Option.{Option, none, some}
@@ -13,6 +13,7 @@ use lib.ListN.{length}
 use borrow.Author.Tests.{lt-ltb, le-ltb, eq-eqb, ne-eqb}
 use Rattle.lists.specs.Tests.{lex}
 use Rattle.lists.proofs.TestLaws.{and-i, and-l, and-r}
+use Rattle.lists.proofs.Cases.{order}
 use Rattle.net.specs.Net.{Arc, arc}
 use Rattle.net.specs.Route.{endOf, leaves, precedes, lengthOf}
 use Rattle.net.specs.Round.{Query}
@@ -20,14 +21,12 @@ use Rattle.net.specs.Search.{passes}
 use Rattle.net.proofs.Order.{before-i, numbers-front, lengthOf-append}
 use Rattle.net.proofs.Chains.{leaves-e}
 use Rattle.net.proofs.Step.{Fails, fails-i}
-use Rattle.table.specs.Table.{records, lenAt, arcsOf, isOpen, netOf}
+use Rattle.table.specs.Table.{records, fromAt, lenAt, arcsOf, isOpen, netOf}
 use Rattle.table.specs.Fault.{tableFault, good}
 use Rattle.table.specs.Run.{runStart}
 use Rattle.table.proofs.FaultLaws.{good-size}
 use Rattle.table.proofs.NetLaws.{arc-is, arcs-length}
-use Rattle.table.proofs.RunLaws.{leaves-run, next-ge, next-le, next-passes, next-skips}
-use Rattle.closures.specs.Closed.{nextOpen}
-use Rattle.closures.proofs.ClosedLaws.{next-open}
+use Rattle.table.proofs.RunLaws.{run-is, run-has, leaves-run}
 use Rattle.labels.specs.Field.{noNumber}
 use Rattle.search_ask.specs.declared.Ask.{Ask}
 use Rattle.search_ask.specs.Ask.{netFor, queryFor}
@@ -198,41 +197,43 @@ open-leaves nodes t closed v a = go (ltb a (length (arcsOf t))) (isOpen closed a
     go false true = refl
     go false false = refl
 
-pub next-within : (closed : List ℕ) (lo e a : ℕ) → lo ≤ e → a ≡ nextOpen closed lo e → (lo ≤ a) × (a ≤ e) × (a < e → isOpen closed a ≡ true)
-next-within closed lo e a h q = rw (q ∙ next-open closed lo e h) (next-ge (isOpen closed) lo e h, next-le (isOpen closed) lo e h, next-passes (isOpen closed) lo e h)
+-- a closed arc is none to look at
+pub look-closed : (ask : Ask) (t closed b : List ℕ) (earlier taken : List (List ℕ)) (last p : List ℕ) (a : ℕ) (o : Option ℕ) → isOpen closed a ≡ false
+    → Cursor (queryFor ask t closed b) earlier (lengthOf (arcsOf t)) taken last p a o → Cursor (queryFor ask t closed b) earlier (lengthOf (arcsOf t)) taken last p (a + 1) o
+look-closed ask t closed b earlier taken last p a o shut c =
+    cursor-skip (queryFor ask t closed b) earlier (lengthOf (arcsOf t)) taken last p a (a + 1) o c
+    (λ y l u w. let z : a ≡ y = omega arith in
+    absurd (subst T shut (subst (λ k. T (isOpen closed k)) (sym z) (leaves-e (netFor ask t closed) (endOf (arcsOf t) (ask .s) p) y (w .leaves-end) .is-usable))))
 
-module _ (ask : Ask) (t closed b : List ℕ) (earlier taken : List (List ℕ)) (last p : List ℕ) (ok : tableFault (ask .nodes) t ≡ good)
-    (v e : ℕ) (ends : v ≡ endOf (arcsOf t) (ask .s) p) (stop : e ≡ runStart t (v + 1)) where
-  in-run : (x : ℕ) → T (leaves (netFor ask t closed) (endOf (arcsOf t) (ask .s) p) x) → (runStart t v ≤ x) × (x < e) × T (isOpen closed x)
+-- an open one leaves its node among the open ones
+pub leaves-open : (ask : Ask) (t closed : List ℕ) (v a : ℕ) → isOpen closed a ≡ true → T (leaves (netFor ask t []) v a) → T (leaves (netFor ask t closed) v a)
+leaves-open ask t closed v a o h =
+    subst T (sym (open-leaves (ask .nodes) t closed v a)) (and-i (isOpen closed a) (leaves (netOf (ask .nodes) t []) v a) (subst T (sym o) tt) h)
+
+module _ (ask : Ask) (t closed b : List ℕ) (earlier taken : List (List ℕ)) (last p : List ℕ) (ok : tableFault (ask .nodes) t ≡ good) (v : ℕ) (ends : v ≡ endOf (arcsOf t) (ask .s) p) where
+  in-run : (x : ℕ) → T (leaves (netFor ask t closed) (endOf (arcsOf t) (ask .s) p) x) → (runStart t v ≤ x) × (x < runStart t (v + 1))
   in-run x h =
       let y = isOpen closed x in
       let z = leaves (netOf (ask .nodes) t []) v x in
       let k : T (y && z) = subst T (open-leaves (ask .nodes) t closed v x) (rw ends h) in
-      let w = leaves-run (ask .nodes) t ok v x .0 (and-r y z k) in
-      (w .0, omega (arith, w .1), and-l y z k)
+      leaves-run (ask .nodes) t ok v x .0 (and-r y z k)
 
-  passed-by : (x y : ℕ) → x ≤ e → x ≤ y → (c : ℕ) → c ≡ nextOpen closed x e → y < c → T (isOpen closed y) → ⊥
-  passed-by x y g h c d k o = subst T (next-skips (isOpen closed) x e g y h (omega (arith, d ∙ next-open closed x e g))) o
+  pub walk-start : (x : ℕ) → x ≡ runStart t v → Cursor (queryFor ask t closed b) earlier (lengthOf (arcsOf t)) taken last p x (arcIn noNumber)
+  walk-start x e =
+      subst (Cursor (queryFor ask t closed b) earlier (lengthOf (arcsOf t)) taken last p x) (sym (arc-none noNumber refl))
+      (cursor-start (queryFor ask t closed b) earlier (lengthOf (arcsOf t)) taken last p x (λ y u w. omega (arith, e, in-run y w .0)))
 
-  pub walk-start : (x a : ℕ) → x ≡ runStart t v → x ≤ e → a ≡ nextOpen closed x e → Cursor (queryFor ask t closed b) earlier (lengthOf (arcsOf t)) taken last p a (arcIn noNumber)
-  walk-start x a d h g =
-      subst (Cursor (queryFor ask t closed b) earlier (lengthOf (arcsOf t)) taken last p a) (sym (arc-none noNumber refl))
-      (cursor-start (queryFor ask t closed b) earlier (lengthOf (arcsOf t)) taken last p a (λ y u w. passed-by x y h (omega (arith, in-run y w .0)) a g u (in-run y w .2)))
-
-  pub walk-on : (a c : ℕ) (o : Option ℕ) → Cursor (queryFor ask t closed b) earlier (lengthOf (arcsOf t)) taken last p (a + 1) o → a < e → c ≡ nextOpen closed (a + 1) e
-      → Cursor (queryFor ask t closed b) earlier (lengthOf (arcsOf t)) taken last p c o
-  walk-on a c o h g k =
-      cursor-skip (queryFor ask t closed b) earlier (lengthOf (arcsOf t)) taken last p (a + 1) c o h
-      (λ y l u w. absurd (passed-by (a + 1) y (omega arith) l c k u (in-run y (w .leaves-end) .2)))
-
-  pub walk-end : (a hi : ℕ) (o : Option ℕ) → Cursor (queryFor ask t closed b) earlier (lengthOf (arcsOf t)) taken last p a o → e ≤ a → Cursor (queryFor ask t closed b) earlier (lengthOf (arcsOf t)) taken last p hi o
+  pub walk-end : (a hi : ℕ) (o : Option ℕ) → Cursor (queryFor ask t closed b) earlier (lengthOf (arcsOf t)) taken last p a o → runStart t (v + 1) ≤ a
+      → Cursor (queryFor ask t closed b) earlier (lengthOf (arcsOf t)) taken last p hi o
   walk-end a hi o h k =
       cursor-skip (queryFor ask t closed b) earlier (lengthOf (arcsOf t)) taken last p a hi o h (λ y l u w. absurd (omega (arith, in-run y (w .leaves-end) .1)))
 
-  pub run-leaves : (a : ℕ) → runStart t v ≤ a → a < e → isOpen closed a ≡ true → T (leaves (netFor ask t closed) (endOf (arcsOf t) (ask .s) p) a)
-  run-leaves a h k o =
-      rw (← ends)
-      (subst T (sym (open-leaves (ask .nodes) t closed v a)) (and-i (isOpen closed a) (leaves (netOf (ask .nodes) t []) v a) (subst T (sym o) tt) (leaves-run (ask .nodes) t ok v a .1 (h, omega arith))))
+  -- an arc that starts at v is one of its run, and from the run's start on the first that does not is past its end
+  pub run-leaves : (a : ℕ) → a < records t → fromAt t a ≡ v → T (leaves (netFor ask t []) (endOf (arcsOf t) (ask .s) p) a)
+  run-leaves a h e = rw (← ends) (leaves-run (ask .nodes) t ok v a .1 (run-has (ask .nodes) t ok v a h e))
+
+  pub run-over : (a : ℕ) → runStart t v ≤ a → fromAt t a ≢ v → runStart t (v + 1) ≤ a
+  run-over a h ne = ⊎-elim (λ z. z) (λ z. absurd (ne (run-is (ask .nodes) t ok v a h z))) (order (runStart t (v + 1)) a)
 
 -- a cursor's arc is one of the table's
 pub cursor-below : (ask : Ask) (t closed b : List ℕ) (earlier taken : List (List ℕ)) (f : List ℕ → ℕ) (last p : List ℕ) (hi x : ℕ) → x ≢ noNumber

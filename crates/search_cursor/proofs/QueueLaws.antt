@@ -11,6 +11,7 @@ use lib.Dec.{T, T-not}
 use lib.ListN.{length}
 use borrow.Author.Tests.{eq-eqb, ne-eqb}
 use Rattle.lists.proofs.TestLaws.{lex-lt}
+use Rattle.words.proofs.RecordLaws.{num-put-near, num-put-far}
 use Rattle.net.specs.Net.{Arc, arc}
 use Rattle.net.specs.Route.{endOf, leaves, before, precedes, lengthOf, numbersFirst}
 use Rattle.net.specs.Round.{Query}
@@ -23,16 +24,19 @@ use Rattle.labels.specs.Field.{labelBytes, noNumber}
 use Rattle.labels.specs.Chain.{chainAt, chainsIn}
 use Rattle.labels.specs.Standing.{Standing, Comparable}
 use Rattle.search_tree.specs.Tree.{First, Tree, TreeBut}
-use Rattle.search_tree.proofs.TreeLaws.{but-changed}
+use Rattle.search_tree.proofs.TreeLaws.{side-pos, but-changed}
 use Rattle.search_ahead.specs.Cursor.{Cursor, Cursors, Wins, takenOf}
 use Rattle.search_ahead.proofs.CursorLaws.{wins-foremost, none-left, others-right}
 use Rattle.search_queue.specs.Working.{cursorAt, winnerAt, keyAt, putOwn}
 use Rattle.search_queue.specs.Only.{Only}
 use Rattle.search_queue.specs.Order.{ownAt, sooner, NotAfter}
+use Rattle.search_queue.proofs.OrderLaws.{not-after-same}
 use Rattle.search_queue.proofs.OnlyLaws.{only-trans, chain-only, chains-only, comparable-only}
 use Rattle.search_queue.proofs.WorkingLaws.{only-own, cursor-same, key-same, cursor-other, key-other, only-working, cursor-only, key-only}
 use Rattle.search_queue.proofs.QueueLaws.{but-own, tree-before, first-before}
-use Rattle.search_cursor.specs.Own.{arcIn, noKey, keyFor}
+use Rattle.search_lists.specs.Link.{linkAt}
+use Rattle.search_lists.specs.Run.{runAt}
+use Rattle.search_cursor.specs.Own.{arcIn, noKey, keyFor, SameLists}
 use Rattle.search_cursor.specs.Queue.{ownArc, Kept, Queued, QueuedBut}
 use Rattle.search_cursor.proofs.OwnLaws.{arc-none, arc-some, arc-given}
 
@@ -132,10 +136,26 @@ pub kept-carried : (q : Query) (earlier taken : List (List ℕ)) (last l m : Lis
     → Kept q earlier taken last l i → Kept q earlier taken last m i
 kept-carried q earlier taken last l m i c a k h = record { cursor = rw (c, a) (h .cursor); key = rw (k, c, a) (h .key) }
 
+-- ---- one label alone
+
+pub tree-alone : (l : List ℕ) → Tree (NotAfter l) (winnerAt l) 1
+tree-alone l = record { joins = λ k i u. absurd (omega (arith, side-pos k, u)) }
+
+pub first-alone : (l : List ℕ) → First (NotAfter l) 1 0 1 0
+first-alone l =
+    record {
+      low = omega arith;
+      high = omega arith;
+      used = omega arith;
+      least = λ j a b d.
+          let z : 0 ≡ j = omega arith in
+          subst (NotAfter l 0) z (not-after-same l 0);
+    }
+
 -- ---- a label's new candidate stored
 
 module _ (q : Query) (l : List ℕ) (n x a : ℕ) (st : Standing (q .net .arcs) (q .s) l n) (most : (a : ℕ) → arc (q .net .arcs) a .len ≤ mostLength) (below : x < n) (fits : a < 2 ^ 32) (m : List ℕ) (put : m ≡ putOwn l x a (keyFor (q .net .arcs) (chainAt l x) a)) where
-  stored : Only 24 16 n l m
+  stored : Only 20 20 n l m
   stored = rw put (only-own l x a (keyFor (q .net .arcs) (chainAt l x) a) n below)
 
   room : x * labelBytes + labelBytes ≤ length l
@@ -161,6 +181,21 @@ module _ (q : Query) (l : List ℕ) (n x a : ℕ) (st : Standing (q .net .arcs) 
   key-old : (j : ℕ) → j ≢ x → keyAt m j ≡ keyAt l j
   key-old j ne = rw put (key-other l x a (keyFor (q .net .arcs) (chainAt l x) a) j (λ e. ne (sym e)))
 
+  -- a candidate's bytes are none of the link's, nor of the run's
+  link-stored : (j : ℕ) → linkAt m j ≡ linkAt l j
+  link-stored j = rw put (go (ℕ-discrete x j))
+    where
+      go : Dec (x ≡ j) → linkAt (putOwn l x a (keyFor (q .net .arcs) (chainAt l x) a)) j ≡ linkAt l j
+      go (yes e) = rw (← e) (simp num-put-near)
+      go (no ne) = simp num-put-far
+
+  run-stored : (j : ℕ) → runAt m j ≡ runAt l j
+  run-stored j = rw put (go (ℕ-discrete x j))
+    where
+      go : Dec (x ≡ j) → runAt (putOwn l x a (keyFor (q .net .arcs) (chainAt l x) a)) j ≡ runAt l j
+      go (yes e) = rw (← e) (simp num-put-near)
+      go (no ne) = simp num-put-far
+
   pub tree-stored : TreeBut (NotAfter l) (winnerAt l) n x → TreeBut (NotAfter m) (winnerAt m) n x
   tree-stored t = rw put (but-own l x a (keyFor (q .net .arcs) (chainAt l x) a) t)
 
@@ -176,8 +211,11 @@ module _ (q : Query) (l : List ℕ) (n x a : ℕ) (st : Standing (q .net .arcs) 
 
   -- then the tree made right
   module _ (earlier : List (List ℕ)) (last r : List ℕ) (o : Only 28 2 n m r) where
-    pub settled-only : Only 24 16 n l r
+    pub settled-only : Only 20 20 n l r
     settled-only = only-trans stored (only-working o)
+
+    pub settled-lists : SameLists l r
+    settled-lists i = (o .field 2 i 30 refl refl ∙ link-stored i, o .field 4 i 20 refl refl ∙ run-stored i)
 
     pub settled : ((i : ℕ) → i < n → i ≢ x → Kept q earlier (chainsIn l n) last l i) → Cursor q earlier (lengthOf (q .net .arcs)) (chainsIn l n) last (chainAt l x) (length (q .net .arcs)) (arcIn a)
         → (w : ℕ) → Tree (NotAfter r) (winnerAt r) n → First (NotAfter r) n 0 n w → Queued q earlier last r n w

@@ -1,4 +1,5 @@
 -- A label's own next candidate, by its last arc.
+use mathlib.Core.Path.{_≡_}
 use mathlib.Core.Bool.{Bool, true, cond, _&&_}
 use mathlib.Core.List.{List, [], _∷_, _++_}
 use mathlib.Core.Logic.{_≢_}
@@ -18,15 +19,24 @@ use Rattle.search_ask.specs.declared.Ask.{Ask}
 use Rattle.search_ask.specs.Ask.{Searching, netFor, queryFor, width}
 use Rattle.search_ask.specs.Earlier.{Earlier, earlierOf}
 use Rattle.search_driven.specs.Marks.{Filter}
+use Rattle.search_lists.specs.Link.{linkAt}
+use Rattle.search_lists.specs.Listed.{Listed}
+use Rattle.search_lists.specs.Run.{runAt, Runs}
 use Rattle.search_cursor.specs.declared.advance.Place.{Place}
 
--- The candidates of n labels can be put to the tests: the search goes on, its labels hold their overlaps, and the earlier answers have their slots, their
--- lengths and their filter.
+-- The candidates of n labels can be put to the tests: the search goes on, its labels hold their overlaps, are listed by their ends and have their runs, and the
+-- earlier answers have their slots, their lengths and their filter.
 pub record Judging (ask : Ask) (table area lens marks labels : List ℕ) (n : ℕ) : Type 0 where
   pub searching : Searching ask table labels n
   pub holding : Holding (netFor ask table []) (earlierOf ask area lens) labels n
   pub earlier : Earlier (arcsOf table) (width ask) (length lens) area lens
   pub filter : Filter table (earlierOf ask area lens) marks
+  pub listed : Listed ask (length lens) area labels n
+  pub runs : Runs table labels n
+
+-- Every label links as before, and has its run.
+abbrev pub SameLists : List ℕ → List ℕ → Type 0
+SameLists l m = (i : ℕ) → (linkAt m i ≡ linkAt l i) × (runAt m i ≡ runAt l i)
 
 -- x is an arc of the table, or none.
 abbrev pub ArcOrNone : List ℕ → ℕ → Type 0

@@ -82,7 +82,7 @@ pub fn dropped(
     let trial = Trial { r: r, n: n, c: c };
     search_trial::overlap::of_candidate(table, ask, area, marks, labels, trial, &mut own);
     let end = table::arc::to_of(table, arc);
-    !search_trial::passes(ask, lens, labels, n, end, &own[0..r])
+    !search_trial::passes(ask, area, lens, labels, n, end, &own[0..r])
 }
 
 // Of `best` and an arc that leaves the label's end, where its cursor stops first.
@@ -121,6 +121,33 @@ fn better(
     arc
 }
 
+// The same of an arc of the run of the label's end, which may be closed.
+fn look(
+    table: &[u8],
+    closed: &[u8],
+    ask: Ask,
+    area: &[u32],
+    lens: &[u64],
+    marks: &[u64],
+    labels: &[u8],
+    x: Place,
+    best: usize,
+    arc: usize,
+) -> usize
+    requires { ⌜ (Judging ask (now table) (now area) (now lens) (now marks) (now labels) (x .n))
+        × (x .label < x .n) × (ArcOrNone (now table) (x .from))
+        × (T (leaves (netFor ask (now table) [])
+        (endIn ask (now table) (now labels) (x .label)) arc))
+        × (AtCursor ask (now table) (now closed) (now area) (now lens) (now labels) x arc best) ⌝ }
+    ensures { λ y. ⌜ AtCursor ask (now (table .entry)) (now (closed .entry)) (now (area .entry))
+        (now (lens .entry)) (now (labels .entry)) x (arc + 1) y ⌝ }
+{
+    if closures::is_closed(closed, arc) {
+        return best;
+    }
+    better(table, closed, ask, area, lens, marks, labels, x, best, arc)
+}
+
 // Where the cursor of a label goes from arc `from`, or from the start: the arc of its next
 // candidate, or none.
 pub fn advance(
@@ -138,15 +165,17 @@ pub fn advance(
     ensures { λ y. ⌜ AtCursor ask (now (table .entry)) (now (closed .entry)) (now (area .entry))
         (now (lens .entry)) (now (labels .entry)) x (records (now (table .entry))) y ⌝ }
 {
-    let nodes = ask.nodes;
     let label = x.label;
     let v = labels::field::end(labels, label);
-    let end = table::run::run_start(table, nodes, v + 1);
+    let count = table.len() / table::arc::RECORD;
     let mut best = search_ask::NO_ARC;
-    let mut arc = closures::next_arc(closed, table::run::run_start(table, nodes, v), end);
-    while arc < end {
-        best = better(table, closed, ask, area, lens, marks, labels, x, best, arc);
-        arc = closures::next_arc(closed, arc + 1, end);
+    let mut arc = search_lists::run::run(labels, label) as usize;
+    while arc < count {
+        if table::arc::from_of(table, arc) != v {
+            return best;
+        }
+        best = look(table, closed, ask, area, lens, marks, labels, x, best, arc);
+        arc += 1;
     }
     best
 }

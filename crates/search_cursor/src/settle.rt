@@ -9,11 +9,37 @@ ghost use Rattle.labels.specs.Chain.{chainAt};
 ghost use Rattle.search_ask.specs.Ask.{queryFor};
 ghost use Rattle.search_ask.specs.Earlier.{earlierOf};
 ghost use Rattle.search_queue.specs.Only.{Only};
-ghost use Rattle.search_cursor.specs.Own.{Judging, ArcOrNone, ownLast};
+ghost use Rattle.search_cursor.specs.Own.{Judging, ArcOrNone, ownLast, SameLists};
 ghost use Rattle.search_cursor.specs.Queue.{Queued, QueuedBut, QueuedBehind};
 
-// The cursor of a label goes on from arc `from`, or from the start. The label whose candidate is
-// the first of all.
+// The cursor of label 0, which is alone, is set: its candidate is the first of all.
+pub fn begin(
+    table: &[u8],
+    closed: &[u8],
+    ask: Ask,
+    area: &[u32],
+    lens: &[u64],
+    marks: &[u64],
+    labels: &mut [u8],
+)
+    requires { ⌜ Judging ask (now table) (now area) (now lens) (now marks) (now labels) 1 ⌝ }
+    ensures { λ _. ⌜ (Only 20 20 1 (now (labels .entry)) (now (labels .exit)))
+        × (SameLists (now (labels .entry)) (now (labels .exit)))
+        × (Queued (queryFor ask (now (table .entry)) (now (closed .entry)) (now (labels .entry)))
+        (earlierOf ask (now (area .entry)) (now (lens .entry)))
+        (chainAt (now (labels .entry)) 0) (now (labels .exit)) 1 0) ⌝ }
+{
+    let x = Place {
+        n: 1,
+        label: 0,
+        from: search_ask::NO_ARC,
+    };
+    let arc = advance::advance(table, closed, ask, area, lens, marks, labels, x);
+    let c = Candidate { label: 0, arc: arc };
+    store::store(table, ask, labels, 1, c);
+}
+
+// The cursor of a label goes on from arc `from`. The label whose candidate is then the first of all.
 pub fn settle(
     table: &[u8],
     closed: &[u8],
@@ -29,7 +55,8 @@ pub fn settle(
         × (QueuedBut (queryFor ask (now table) (now closed) (now labels))
         (earlierOf ask (now area) (now lens)) (ownLast (chainAt (now labels) (x .label)) (x .from))
         (now labels) (x .n) (x .label)) ⌝ }
-    ensures { λ y. ⌜ (Only 24 16 (x .n) (now (labels .entry)) (now (labels .exit)))
+    ensures { λ y. ⌜ (Only 20 20 (x .n) (now (labels .entry)) (now (labels .exit)))
+        × (SameLists (now (labels .entry)) (now (labels .exit)))
         × (Queued (queryFor ask (now (table .entry)) (now (closed .entry)) (now (labels .entry)))
         (earlierOf ask (now (area .entry)) (now (lens .entry)))
         (ownLast (chainAt (now (labels .entry)) (x .label)) (x .from))
@@ -62,7 +89,8 @@ pub fn enter(
     requires { ⌜ (Judging ask (now table) (now area) (now lens) (now marks) (now labels) (n + 1))
         × (QueuedBehind (queryFor ask (now table) (now closed) (now labels))
         (earlierOf ask (now area) (now lens)) (chainAt (now labels) n) (now labels) n root) ⌝ }
-    ensures { λ y. ⌜ (Only 24 16 (n + 1) (now (labels .entry)) (now (labels .exit)))
+    ensures { λ y. ⌜ (Only 20 20 (n + 1) (now (labels .entry)) (now (labels .exit)))
+        × (SameLists (now (labels .entry)) (now (labels .exit)))
         × (Queued (queryFor ask (now (table .entry)) (now (closed .entry)) (now (labels .entry)))
         (earlierOf ask (now (area .entry)) (now (lens .entry)))
         (chainAt (now (labels .entry)) n) (now (labels .exit)) (n + 1) y) ⌝ }

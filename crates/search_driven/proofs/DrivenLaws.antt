@@ -4,8 +4,8 @@
 use mathlib.Core.Path.{_≡_, refl, sym, ap, _∙_}
 use mathlib.Core.Bool.{Bool, true, false, not, _&&_, _||_}
 use mathlib.Core.List.{List, [], _∷_}
-use mathlib.Core.Logic.{_≢_, ⊎-elim}
-use Prim.Native.Nat.{ℕ, _+_, _≤_, _<_}
+use mathlib.Core.Logic.{_≢_, _⊎_, inl, inr, ⊎-elim}
+use Prim.Native.Nat.{ℕ, zero, suc, _+_, _-_, _≤_, _<_}
 use native.Mathlib.Omega.{arith}
 use native.Mathlib.Numerals.{add-one}
 use lib.Dec.{eqb}
@@ -13,14 +13,14 @@ use lib.ListN.{length, getD, drop, drop-of-length-le}
 use lib.Seq.{drop-cons}
 use borrow.Author.Tests.{eq-eqb, ne-eqb, eqb-true, eqb-false}
 use Rattle.lists.specs.Tests.{any, keep, consIf}
-use Rattle.lists.proofs.Cases.{cases}
+use Rattle.lists.proofs.Cases.{cases, order}
 use Rattle.net.specs.Net.{road, sameRoad, driven}
 use Rattle.net.specs.Route.{lengthOf, overlap}
 use Rattle.net.specs.Limits.{mostArcs}
 use Rattle.table.specs.Table.{records, lenAt, roadAt, roadsOf, netOf}
 use Rattle.table.proofs.NetLaws.{arc-is, road-is, road-past}
 use Rattle.labels.specs.Field.{noNumber}
-use Rattle.search_ask.specs.Earlier.{routeIn}
+use Rattle.search_ask.specs.Earlier.{routeIn, Formed}
 
 -- ---- a word among those from i on
 
@@ -36,6 +36,20 @@ module _ (f : ℕ → Bool) (l : List ℕ) (i : ℕ) where
   pub any-stop : i < length l → f (getD l i 0) ≡ true → any f (drop i l) ≡ true
   unfolding any
   any-stop h e = rw (drop-cons l i 0 h, e)
+
+-- a blank word ends what a slot has
+blank-on : (f : ℕ → Bool) → f noNumber ≡ false → (l : List ℕ) → Formed l → (n i : ℕ) → i < length l → getD l i 0 ≡ noNumber → length l ≡ i + n → any f (drop i l) ≡ false
+blank-on f none l formed zero i h e m = absurd (omega arith)
+blank-on f none l formed (suc n) i h e m =
+    any-step f l i h (ap f e ∙ none)
+    ∙ on (λ k. blank-on f none l formed n (i + 1) (omega arith) (formed i (i + 1) (omega arith) (omega arith) e) (omega arith)) (order (i + 2) (length l))
+  where
+    on : (i + 2 ≤ length l → any f (drop (i + 1) l) ≡ false) → (i + 2 ≤ length l) ⊎ (length l < i + 2) → any f (drop (i + 1) l) ≡ false
+    on again (inl k) = again k
+    on again (inr k) = any-done f l (i + 1) (omega arith)
+
+pub any-blank : (f : ℕ → Bool) → f noNumber ≡ false → (l : List ℕ) → Formed l → (i : ℕ) → i < length l → getD l i 0 ≡ noNumber → any f (drop i l) ≡ false
+any-blank f none l formed i h e = blank-on f none l formed (length l - i) i h e (omega arith)
 
 -- ---- one word, against an arc whose road number is not zero
 
@@ -64,7 +78,7 @@ any-route f none (y ∷ ys) = go (eqb y noNumber) refl (any-route f none ys)
     go true e h = rw (ap f (eqb-true y noNumber e) ∙ none) h
     go false e h = ap (λ x. f y || x) h
 
-filler : (roads : List ℕ) (a : ℕ) → a ≢ noNumber → road roads noNumber ≡ 0 → sameRoad roads a noNumber ≡ false
+pub filler : (roads : List ℕ) (a : ℕ) → a ≢ noNumber → road roads noNumber ≡ 0 → sameRoad roads a noNumber ≡ false
 filler roads a ne past = rw (ne-eqb a noNumber ne, past) (go (eqb (road roads a) 0))
   where
     go : (x : Bool) → (not x && x) ≡ false

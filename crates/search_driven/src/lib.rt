@@ -5,23 +5,30 @@ pub mod marks;
 use search_ask::Ask;
 ghost use mathlib.Core.Path.{_≡_};
 ghost use mathlib.Core.List.{[], _∷_};
-ghost use Prim.Native.Nat.{_<_};
+ghost use mathlib.Core.Logic.{_≢_};
+ghost use Prim.Native.Nat.{_≤_, _<_};
 ghost use lib.Dec.{eqb};
 ghost use Rattle.lists.specs.Tests.{any};
 ghost use Rattle.net.specs.Net.{road, sameRoad, driven};
 ghost use Rattle.net.specs.Route.{overlap};
+ghost use Rattle.net.specs.Limits.{mostArcs};
 ghost use Rattle.table.specs.Table.{records, roadsOf};
+ghost use Rattle.labels.specs.Field.{noNumber};
 ghost use Rattle.search_ask.specs.Ask.{Accepted, netFor};
-ghost use Rattle.search_ask.specs.Earlier.{routeIn};
+ghost use Rattle.search_ask.specs.Earlier.{routeIn, Formed};
 
 // Whether an arc stands on the slot.
 fn stands_on(slot: &[u32], arc: u32) -> bool
+    requires { ⌜ (Formed (now slot)) × (arc ≢ noNumber) ⌝ }
     ensures { λ r. ⌜ r ≡ any (eqb arc) (now (slot .entry)) ⌝ }
 {
     let mut i = 0;
     while i < slot.len() {
         if slot[i] == arc {
             return true;
+        }
+        if slot[i] == labels::field::NONE {
+            return false;
         }
         i += 1;
     }
@@ -45,11 +52,15 @@ fn same_road(table: &[u8], arc: u32, number: u32, word: u32) -> bool
 
 // Whether an arc of this arc's road, whose number is not zero, stands on the slot.
 fn drives_road(table: &[u8], slot: &[u32], arc: u32, number: u32) -> bool
-    requires { ⌜ (number ≡ road (roadsOf (now table)) arc) × (0 < number) ⌝ }
+    requires { ⌜ (number ≡ road (roadsOf (now table)) arc) × (0 < number) × (Formed (now slot))
+        × (arc ≢ noNumber) × (records (now table) ≤ mostArcs) ⌝ }
     ensures { λ r. ⌜ r ≡ any (sameRoad (roadsOf (now (table .entry))) arc) (now (slot .entry)) ⌝ }
 {
     let mut i = 0;
     while i < slot.len() {
+        if slot[i] == labels::field::NONE {
+            return false;
+        }
         if same_road(table, arc, number, slot[i]) {
             return true;
         }
@@ -60,7 +71,8 @@ fn drives_road(table: &[u8], slot: &[u32], arc: u32, number: u32) -> bool
 
 // Whether the route in the slot drives the road of an arc.
 pub fn drives(table: &[u8], ask: Ask, slot: &[u32], arc: usize) -> bool
-    requires { ⌜ (Accepted ask (now table)) × (arc < records (now table)) ⌝ }
+    requires { ⌜ (Accepted ask (now table)) × (arc < records (now table))
+        × (Formed (now slot)) ⌝ }
     ensures { λ r. ⌜ r ≡ driven (roadsOf (now (table .entry)))
         (routeIn (now (slot .entry))) arc ⌝ }
 {
@@ -73,7 +85,8 @@ pub fn drives(table: &[u8], ask: Ask, slot: &[u32], arc: usize) -> bool
 
 // What an arc adds to the overlap with the route in the slot.
 pub fn shared(table: &[u8], ask: Ask, slot: &[u32], arc: usize) -> u64
-    requires { ⌜ (Accepted ask (now table)) × (arc < records (now table)) ⌝ }
+    requires { ⌜ (Accepted ask (now table)) × (arc < records (now table))
+        × (Formed (now slot)) ⌝ }
     ensures { λ r. ⌜ r ≡ overlap (netFor ask (now (table .entry)) []) (arc ∷ [])
         (routeIn (now (slot .entry))) ⌝ }
 {

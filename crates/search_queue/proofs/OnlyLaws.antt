@@ -67,7 +67,7 @@ only-put o k n l x v ho h =
 
 -- ---- what stays where working bytes changed
 
-module _ {n : ℕ} {l m : List ℕ} (o : Only 24 16 n l m) where
+module _ {n : ℕ} {l m : List ℕ} (o : Only 20 20 n l m) where
   pub last-arc-only : (i : ℕ) → lastArcAt m i ≡ lastArcAt l i
   last-arc-only i = o .field 4 i 0 refl refl
 
@@ -90,7 +90,7 @@ module _ {n : ℕ} {l m : List ℕ} (o : Only 24 16 n l m) where
   pub overlap-only : (i r : ℕ) → r < mostEarlier → overlapAt m i r ≡ overlapAt l i r
   overlap-only i r h =
       let p : ℕ = headBytes + 8 * r in
-      o .field 8 i p (or-right (leb (p + 8) 24) (leb 40 p) (le-leb 40 p (omega arith))) (le-leb (p + 8) labelBytes (omega arith))
+      o .field 8 i p (or-right (leb (p + 8) 20) (leb 40 p) (le-leb 40 p (omega arith))) (le-leb (p + 8) labelBytes (omega arith))
 
   pub overlaps-only : (i r : ℕ) → r ≤ mostEarlier → overlapsAt m i r ≡ overlapsAt l i r
   overlaps-only i r few = tab-cong r (overlapAt m i) (overlapAt l i) (λ j h. overlap-only i j (omega arith))

@@ -9,7 +9,7 @@ use Rattle.labels.specs.Field.{Row, putRow}
 use Rattle.labels.specs.Standing.{Down}
 use Rattle.labels.proofs.StoreLaws.{as-before, chain-other}
 use Rattle.search_tree.specs.Tree.{First, Tree, TreeBut}
-use Rattle.search_tree.proofs.TreeLaws.{but-carried, but-changed, first-below, tree-below}
+use Rattle.search_tree.proofs.TreeLaws.{but-carried, first-below, tree-below}
 use Rattle.search_queue.specs.Working.{winnerAt, keyAt, putOwn}
 use Rattle.search_queue.specs.Order.{ownAt, sooner, NotAfter}
 use Rattle.search_queue.proofs.OnlyLaws.{chain-only}
@@ -33,9 +33,6 @@ module _ (l : List ℕ) (x arc key : ℕ) where
 
   pub but-own : {n : ℕ} → TreeBut (NotAfter l) (winnerAt l) n x → TreeBut (NotAfter (putOwn l x arc key)) (winnerAt (putOwn l x arc key)) n x
   but-own {n} t = but-carried (NotAfter l) (NotAfter (putOwn l x arc key)) (winnerAt l) (winnerAt (putOwn l x arc key)) n x not-after-own (winner-kept l x arc key) t
-
-  pub tree-own : {n : ℕ} → Tree (NotAfter l) (winnerAt l) n → TreeBut (NotAfter (putOwn l x arc key)) (winnerAt (putOwn l x arc key)) n x
-  tree-own {n} t = but-changed (NotAfter l) (NotAfter (putOwn l x arc key)) (winnerAt l) (winnerAt (putOwn l x arc key)) n x not-after-own (winner-kept l x arc key) t
 
   -- the labels before x
   not-after-before : (i j : ℕ) → i < x → j < x → NotAfter l i j → NotAfter (putOwn l x arc key) i j

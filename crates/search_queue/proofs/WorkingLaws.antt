@@ -30,7 +30,7 @@ module _ (l : List ℕ) (x w : ℕ) where
 -- ---- a candidate
 
 module _ (l : List ℕ) (x arc key : ℕ) where
-  pub only-own : (n : ℕ) → x < n → Only 24 16 n l (putOwn l x arc key)
+  pub only-own : (n : ℕ) → x < n → Only 20 20 n l (putOwn l x arc key)
   only-own n h =
       let m = put 4 l (x * labelBytes + 24) arc in
       only-trans (only-wide 24 4 (only-put 24 4 n l x arc refl h) refl refl) (only-wide 32 8 (only-put 32 8 n m x key refl h) refl refl)
@@ -58,7 +58,7 @@ module _ (l : List ℕ) (x arc key : ℕ) where
 -- ---- where only winners changed
 
 module _ {n : ℕ} {l m : List ℕ} (o : Only 28 2 n l m) where
-  pub only-working : Only 24 16 n l m
+  pub only-working : Only 20 20 n l m
   only-working = only-wide 28 2 o refl refl
 
   pub cursor-only : (i : ℕ) → cursorAt m i ≡ cursorAt l i

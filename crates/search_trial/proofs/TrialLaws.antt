@@ -1,16 +1,15 @@
 -- The tests by numbers are the theory's. Each goes over indices where the theory goes over a list, and at each index they agree: the overlaps of the candidate
 -- and those that a label holds are those of the theory, and so are the lengths.
-use mathlib.Core.Path.{_≡_, refl, sym, ap, ap₂, _∙_}
-use mathlib.Core.Bool.{Bool, true, false, not, _&&_}
+use mathlib.Core.Path.{_≡_, refl, sym, subst, ap, ap₂, _∙_}
+use mathlib.Core.Logic.{_≢_}
+use mathlib.Core.Bool.{Bool, true, not, _&&_}
 use mathlib.Core.List.{List, []}
-use mathlib.Core.Logic.{⊎-elim}
 use Prim.Native.Nat.{ℕ, _+_, _*_, _<_}
 use native.Mathlib.Omega.{arith}
-use lib.Dec.{eqb, leb}
+use lib.Dec.{T, eqb, leb, T-not}
 use lib.ListN.{length, getD}
-use borrow.Author.Tests.{eq-eqb, eqb-true}
 use Rattle.lists.specs.Tests.{upFrom, every, any}
-use Rattle.lists.proofs.Cases.{cases}
+use Rattle.lists.proofs.TestLaws.{and-r}
 use Rattle.lists.proofs.LoopLaws.{every-at, any-at}
 use Rattle.net.specs.Net.{Net}
 use Rattle.net.specs.Route.{endOf, lengthOf, overlap, within}
@@ -28,16 +27,11 @@ use Rattle.search_ask.specs.declared.Candidate.{Candidate}
 use Rattle.search_ask.specs.Ask.{netFor, queryFor, width, chainOf}
 use Rattle.search_ask.specs.Earlier.{Earlier, earlierOf}
 use Rattle.search_ask.proofs.AskLaws.{lengths-most}
-use Rattle.search_trial.specs.Trial.{Trying, Measured, withinEach, noneGreater, coveredAt, passesAt}
+use Rattle.search_lists.specs.Listed.{Listed, noneGreater, coveredAt}
+use Rattle.search_lists.proofs.ListedLaws.{covered-start}
+use Rattle.search_trial.specs.Trial.{Trying, Measured, withinEach, passesAt}
 use Rattle.search_ask.proofs.EarlierLaws.{length-earlierIn, getD-earlierIn}
 use Rattle.search_trial.proofs.OverlapLaws.{candidate-most, end-is}
-
--- two numbers are equal, and a test passes
-pub covers : (x v : ℕ) (g : Bool) → x ≡ v → g ≡ true → (eqb x v && g) ≡ true
-covers x v g e h = rw (eq-eqb x v e, h)
-
-pub covers-not : (x v : ℕ) (g : Bool) → (x ≡ v → g ≡ false) → (eqb x v && g) ≡ false
-covers-not x v g h = ⊎-elim (λ (e : eqb x v ≡ true). rw (h (eqb-true x v e), e)) (λ (e : eqb x v ≡ false). rw e) (cases (eqb x v))
 
 -- ---- the tests on a candidate c
 
@@ -88,6 +82,12 @@ module _ (q : Query) (earlier : List (List ℕ)) (c own : List ℕ) (os : own �
 
 -- ---- on trial, as the code has it
 
+-- what passes does not come back to s, where the first label covers everything
+pub passes-away : {ask : Ask} {area labels : List ℕ} {n : ℕ} (lens own : List ℕ) (v : ℕ) → Listed ask (length own) area labels n → n ≢ 0 → passesAt ask lens labels n v own ≡ true → v ≢ ask .s
+passes-away {ask} {labels = labels} {n} lens own v d some passed e =
+    let x = coveredAt labels n v own in
+    T-not x (and-r (withinEach (ask .a) (ask .b) lens own) (not x) (subst T (sym passed) tt)) (subst T (sym (covered-start own d v some e)) tt)
+
 -- which roads are closed does not show in an overlap
 pub overlaps-open : (ask : Ask) (table c d : List ℕ) (earlier : List (List ℕ)) (p : List ℕ) → overlapsOf (netFor ask table c) earlier p ≡ overlapsOf (netFor ask table d) earlier p
 unfolding overlapsOf overlap
@@ -103,16 +103,18 @@ module _ {ask : Ask} {table area lens labels : List ℕ} {n : ℕ} {c : Candidat
       let b : j < length lens = omega (arith, length-earlierIn (width ask) (length lens) area) in
       e .lengths j b ∙ ap (lengthOf (arcsOf table)) (sym (getD-earlierIn (width ask) (length lens) area j b))
 
+  pub own-many : length own ≡ length lens
+  own-many = ap length os ∙ length-overlapsOf (netFor ask table []) (earlierOf ask area lens) (chainOf labels c) ∙ length-earlierIn (width ask) (length lens) area
+
   pub measured : Measured ask lens own
   measured =
       let ok = t .searching .accepted in
-      let many : length own ≡ length lens = ap length os ∙ length-overlapsOf (netFor ask table []) (earlierOf ask area lens) (chainOf labels c) ∙ length-earlierIn (width ask) (length lens) area in
       record {
         a-most = omega (arith, ok .a-below, ok .b-most);
         b-most = ok .b-most;
-        few = omega (arith, many, t .holding .few, length-earlierIn (width ask) (length lens) area);
-        enough = omega (arith, many);
-        lens-most = λ j h. e .most j (omega (arith, many));
+        few = omega (arith, own-many, t .holding .few, length-earlierIn (width ask) (length lens) area);
+        enough = omega (arith, own-many);
+        lens-most = λ j h. e .most j (omega (arith, own-many));
         own-most = λ j h.
             omega (
               arith,

@@ -2,15 +2,17 @@
 use mathlib.Core.Bool.{Bool, not, _&&_}
 use mathlib.Core.List.{List, []}
 use Prim.Native.Nat.{ℕ, _+_, _*_, _≤_, _<_}
-use lib.Dec.{leb, eqb}
+use lib.Dec.{leb}
 use lib.ListN.{length, getD}
-use Rattle.lists.specs.Tests.{upFrom, every, any}
+use Rattle.lists.specs.Tests.{upFrom, every}
 use Rattle.net.specs.Limits.{mostNodes, mostLength, mostB}
-use Rattle.labels.specs.Field.{mostEarlier, endAt, overlapAt}
+use Rattle.labels.specs.Field.{mostEarlier}
 use Rattle.labels.specs.Standing.{Holding}
 use Rattle.search_ask.specs.declared.Ask.{Ask}
 use Rattle.search_ask.specs.Ask.{Searching, Among, netFor, width}
-use Rattle.search_ask.specs.Earlier.{earlierIn}
+use Rattle.words.specs.Part.{slot}
+use Rattle.search_ask.specs.Earlier.{earlierIn, Formed}
+use Rattle.search_lists.specs.Listed.{coveredAt}
 use Rattle.search_trial.specs.declared.Trial.{Trial}
 
 -- The search goes on, its labels hold their overlaps, the candidate is one of its own, and the earlier answers have their slots. Which roads are closed does
@@ -20,6 +22,7 @@ pub record Trying (ask : Ask) (table area labels : List ℕ) (x : Trial) : Type 
   pub holding : Holding (netFor ask table []) (earlierIn (width ask) (x .r) area) labels (x .n)
   pub among : Among table (x .n) (x .c)
   pub slots : x .r * width ask ≤ length area
+  pub formed : (j : ℕ) → j < x .r → Formed (slot (width ask) j area)
 
 -- The numbers of a test lie within their limits, and there is a length for each overlap.
 pub record Measured (ask : Ask) (lens own : List ℕ) : Type 0 where
@@ -34,16 +37,6 @@ pub record Measured (ask : Ask) (lens own : List ℕ) : Type 0 where
 unfoldable pub withinEach : ℕ → ℕ → List ℕ → List ℕ → Bool
 unfolding every upFrom
 withinEach a b lens own = every (λ j. leb (b * getD own j 0) (a * getD lens j 0)) (upFrom 0 (length own))
-
--- Label k has "no greater overlap with each earlier route".
-unfoldable pub noneGreater : List ℕ → ℕ → List ℕ → Bool
-unfolding every upFrom
-noneGreater labels k own = every (λ j. leb (overlapAt labels k j) (getD own j 0)) (upFrom 0 (length own))
-
--- One of n labels does that ends at this node.
-unfoldable pub coveredAt : List ℕ → ℕ → ℕ → List ℕ → Bool
-unfolding any upFrom noneGreater
-coveredAt labels n end own = any (λ k. eqb (endAt labels k) end && noneGreater labels k own) (upFrom 0 n)
 
 -- Both tests.
 abbrev pub passesAt : Ask → List ℕ → List ℕ → ℕ → ℕ → List ℕ → Bool

@@ -5,11 +5,11 @@ pub mod overlap;
 use search_ask::Ask;
 use search_ask::Candidate;
 ghost use mathlib.Core.Path.{_≡_};
-ghost use Prim.Native.Nat.{_+_, _*_, _≤_};
+ghost use mathlib.Core.Logic.{_≢_};
+ghost use Prim.Native.Nat.{_<_};
 ghost use lib.ListN.{length};
-ghost use Rattle.labels.specs.Field.{labelBytes, mostEarlier};
-ghost use Rattle.search_trial.specs.Trial.{Measured};
-ghost use Rattle.search_trial.specs.Trial.{withinEach, noneGreater, coveredAt, passesAt};
+ghost use Rattle.search_lists.specs.Listed.{Listed};
+ghost use Rattle.search_trial.specs.Trial.{Measured, withinEach, passesAt};
 
 // A candidate on trial, after r earlier answers and with n labels.
 pub struct Trial {
@@ -35,47 +35,24 @@ fn within(ask: Ask, lens: &[u64], own: &[u64]) -> bool
     true
 }
 
-// Whether label k has no greater overlap with each earlier answer.
-fn no_greater(labels: &[u8], k: usize, own: &[u64]) -> bool
-    requires { ⌜ (k * labelBytes + labelBytes ≤ length (now labels))
-        × (length (now own) ≤ mostEarlier) ⌝ }
-    ensures { λ y. ⌜ y ≡ noneGreater (now (labels .entry)) k (now (own .entry)) ⌝ }
-{
-    let mut j = 0;
-    while j < own.len() {
-        if own[j] < labels::field::overlap(labels, k, j) {
-            return false;
-        }
-        j += 1;
-    }
-    true
-}
-
-// Whether one of n labels covers a candidate that ends there.
-fn covered(labels: &[u8], n: usize, end: u32, own: &[u64]) -> bool
-    requires { ⌜ (n * labelBytes ≤ length (now labels)) × (length (now own) ≤ mostEarlier) ⌝ }
-    ensures { λ y. ⌜ y ≡ coveredAt (now (labels .entry)) n end (now (own .entry)) ⌝ }
-{
-    let mut k = 0;
-    while k < n {
-        if labels::field::end(labels, k) == end {
-            if no_greater(labels, k, own) {
-                return true;
-            }
-        }
-        k += 1;
-    }
-    false
-}
-
 // Whether a candidate that ends there passes both tests.
-pub fn passes(ask: Ask, lens: &[u64], labels: &[u8], n: usize, end: u32, own: &[u64]) -> bool
-    requires { ⌜ (Measured ask (now lens) (now own)) × (n * labelBytes ≤ length (now labels)) ⌝ }
+pub fn passes(
+    ask: Ask,
+    area: &[u32],
+    lens: &[u64],
+    labels: &[u8],
+    n: usize,
+    end: u32,
+    own: &[u64],
+) -> bool
+    requires { ⌜ (Measured ask (now lens) (now own))
+        × (Listed ask (length (now own)) (now area) (now labels) n) × (n ≢ 0)
+        × (end < ask .nodes) ⌝ }
     ensures { λ y. ⌜ y ≡ passesAt ask (now (lens .entry)) (now (labels .entry)) n end
         (now (own .entry)) ⌝ }
 {
     if !within(ask, lens, own) {
         return false;
     }
-    !covered(labels, n, end, own)
+    !search_lists::covered(ask, area, labels, n, end, own)
 }

@@ -11,7 +11,7 @@ ghost use Rattle.net.specs.Route.{overlap};
 ghost use Rattle.table.specs.Table.{records, roadsOf};
 ghost use Rattle.labels.specs.Rows.{overlapsOf};
 ghost use Rattle.search_ask.specs.Ask.{Accepted, netFor, width, chainOf};
-ghost use Rattle.search_ask.specs.Earlier.{routeIn, earlierIn};
+ghost use Rattle.search_ask.specs.Earlier.{routeIn, earlierIn, Formed};
 ghost use Rattle.search_driven.specs.Marks.{Filter};
 ghost use Rattle.search_trial.specs.Trial.{Trying};
 
@@ -19,6 +19,7 @@ ghost use Rattle.search_trial.specs.Trial.{Trying};
 // route may drive the arc's road.
 fn share_of(table: &[u8], ask: Ask, slot: &[u32], arc: usize, may: bool) -> u64
     requires { ⌜ (Accepted ask (now table)) × (arc < records (now table))
+        × (Formed (now slot))
         × (may ≡ false → driven (roadsOf (now table)) (routeIn (now slot)) arc ≡ false) ⌝ }
     ensures { λ r. ⌜ r ≡ overlap (netFor ask (now (table .entry)) []) (arc ∷ [])
         (routeIn (now (slot .entry))) ⌝ }

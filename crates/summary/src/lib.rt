@@ -19,8 +19,8 @@ pub struct Summary {
 // The summaries of all rounds by value: a row of numbers for each field.
 pub struct Sums {
     pub length: [u64; MOST_ROUTES],
-    pub arcs: [u64; MOST_ROUTES],
-    pub labels: [u64; MOST_ROUTES],
+    pub arcs: [u16; MOST_ROUTES],
+    pub labels: [u16; MOST_ROUTES],
 }
 
 // The summary of round i, from 0.
@@ -28,28 +28,13 @@ pub fn at(t: Sums, i: usize) -> Summary
     requires { ⌜ i < mostRoutes ⌝ }
     ensures { λ r. ⌜ r ≡ recordAt t i ⌝ }
 {
+    let length = t.length;
+    let arcs = t.arcs;
+    let labels = t.labels;
     Summary {
-        length: t.length[i],
-        arcs: t.arcs[i],
-        labels: t.labels[i],
-    }
-}
-
-// The summaries with that of round i, from 0.
-pub fn with(t: Sums, i: usize, x: Summary) -> Sums
-    requires { ⌜ i < mostRoutes ⌝ }
-    ensures { λ r. ⌜ r ≡ setAt t i x ⌝ }
-{
-    let mut length = t.length;
-    let mut arcs = t.arcs;
-    let mut labels = t.labels;
-    length[i] = x.length;
-    arcs[i] = x.arcs;
-    labels[i] = x.labels;
-    Sums {
-        length: length,
-        arcs: arcs,
-        labels: labels,
+        length: length[i],
+        arcs: arcs[i] as u64,
+        labels: labels[i] as u64,
     }
 }
 

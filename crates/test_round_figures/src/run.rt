@@ -1,9 +1,8 @@
 // The rounds of a case, one after the other.
 use crate::show;
 use query::Wish;
-use query_rounds::Progress;
+use query_rounds::Stand;
 use search_ask::Ask;
-use summary::Sums;
 ghost use Prim.Native.Nat.{_≤_};
 ghost use Rattle.query_rounds.specs.Progress.{Wanted};
 
@@ -11,21 +10,31 @@ ghost use Rattle.query_rounds.specs.Progress.{Wanted};
 fn rounds(name: &[u8], t: &[u8], ask: Ask, k: usize, labels: &mut [u8], area: &mut [u32])
     requires { ⌜ (Wanted ask (now t) k (now labels) (now area)) × (1 ≤ k) ⌝ }
 {
-    let zeros = [0u64; summary::MOST_ROUTES];
-    let mut x = Progress {
+    let w = ask.nodes as usize - 1;
+    let end = k * w;
+    words::fill::fill32_part(area, 0, end, labels::field::NONE);
+    let mut lens = [0u64; summary::MOST_ROUTES];
+    let mut arcs = [0u16; summary::MOST_ROUTES];
+    let mut counts = [0u16; summary::MOST_ROUTES];
+    let mut x = Stand {
         r: 0,
         stage: query_rounds::GOING,
-        sums: Sums {
-            length: zeros,
-            arcs: zeros,
-            labels: zeros,
-        },
     };
     while x.stage == query_rounds::GOING {
         let r = x.r;
-        x = query_rounds::step(t, &t[0..0], ask, k, labels, area, x);
-        let sums = x.sums;
-        show::round(name, r, sums, labels);
+        x = query_rounds::step(
+            t,
+            &t[0..0],
+            ask,
+            k,
+            labels,
+            area,
+            &mut lens,
+            &mut arcs,
+            &mut counts,
+            r,
+        );
+        show::round(name, r, &counts, labels);
     }
 }
 

@@ -1,5 +1,4 @@
 // A line for each label of a round.
-use summary::Sums;
 
 fn number(text: &[u8], n: u64) {
     io::write_all(1, text);
@@ -42,13 +41,12 @@ fn label(name: &[u8], r: usize, labels: &[u8], i: usize) {
 }
 
 // All labels of the round after r answers, as it left them.
-pub(crate) fn round(name: &[u8], r: usize, sums: Sums, labels: &[u8]) {
-    if r < summary::MOST_ROUTES {
-        let own = summary::at(sums, r);
-        let n = own.labels;
+pub(crate) fn round(name: &[u8], r: usize, counts: &[u16], labels: &[u8]) {
+    if r < counts.len() {
+        let n = counts[r] as usize;
         let mut i = 0;
         while i < n {
-            label(name, r, labels, i as usize);
+            label(name, r, labels, i);
             i += 1;
         }
     }

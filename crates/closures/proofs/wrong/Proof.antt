@@ -10,7 +10,6 @@ use borrow.Author.Needs.{needs}
 use borrow.Author.Tests.{lt-ltb, le-ltb, eq-eqb, ne-eqb}
 use Rattle.lists.specs.Tests.{any}
 use Rattle.lists.proofs.LoopLaws.{rest, one-done, one-step, one-stop, from-first}
-use Rattle.table.specs.Table.{records}
 use Rattle.closures.specs.Closed.{wrong}
 use Rattle.closures.proofs.wrong.Statement.{statement}
 use Rattle.closures.proofs.wrong.Tie as tie

@@ -1,4 +1,4 @@
--- The ask is made of the five numbers, and the query is decided.
+-- The ask is made of the five numbers, and the query is decided into rows of zeros.
 use mathlib.Core.List.{[]}
 use borrow.Author.Needs.{needs}
 use Rattle.query.proofs.DecideLaws.{cored-same}
@@ -7,10 +7,10 @@ use Rattle.query.proofs.core.Tie as tie
 
 returns : tie.Need-returns
 returns c =
-    let d = c .before .before .before .before in
-    let o = d .before .before .before .before in
+    let d = c .before .before .before .before .before .before .before .before in
+    let o = d .before .before .before .before .before .before .before in
     let s = o .before .before .before .before in
-    cored-same (s .args .table .now) [] _ (s .args .labels .now) (s .args .area .now) _ _ (d .decide .result) _ _ (o .ask-of .ensures) (d .decide .ensures)
+    cored-same (s .args .table .now) [] _ (s .args .labels .now) (s .args .area .now) _ _ _ (c .got-of .result) _ _ (o .ask-of .ensures) (c .got-of .ensures) (d .decide .ensures)
 
 pub core-spec : {M : Type 1} → statement M
 core-spec =
@@ -20,6 +20,10 @@ core-spec =
     (λ c. search needs)
     (λ c. search needs)
     (λ c. search needs)
+    (λ c. search needs)
+    (λ c. search needs)
+    (λ c. search needs)
+    (λ c κs. search needs)
     (λ c κs. search needs)
     (λ c. search needs)
     (λ c. search needs)

@@ -1,5 +1,5 @@
 -- Where something refuses, everything is left as it was; where nothing does, the rounds give all that is due.
-use mathlib.Core.Path.{_≡_, sym, ap, _∙_}
+use mathlib.Core.Path.{_≡_, refl, sym, ap, _∙_}
 use borrow.Author.Needs.{needs}
 use Rattle.query.specs.Query.{Input, asked}
 use Rattle.query.proofs.DecideLaws.{Reached, reached, wanted, cored-refused, cored-reached}
@@ -7,7 +7,7 @@ use Rattle.query.proofs.decide.Statement.{statement}
 use Rattle.query.proofs.decide.Tie as tie
 
 abbrev start : tie.After-refused → tie.Start
-start c = c .before .before .before .before .before .before .before
+start c = c .before .before .before .before .before .before .before .before .before .before
 
 abbrev input : tie.After-refused → Input
 input c = let s = start c in asked (s .args .table .now) (s .args .closed .now) (s .args .ask) (s .args .wish) (s .args .labels .now) (s .args .area .now)
@@ -17,19 +17,18 @@ on e = let r = e .before .before in reached (input r) (sym (ap (λ x. x .outcome
 
 returns : tie.Need-returns
 returns c =
-    let t = c .before in
-    let r = t .before .before in
-    cored-refused (input r) _ (c .refuse .ensures .0 ∙ r .refused .ensures) (c .refuse .ensures .1) (λ z. t .if1 .taken (ap (λ x. x .outcome) (r .refused .ensures) ∙ z))
+    let r = c .before .before in
+    cored-refused (input r) _ (r .refused .ensures) refl (λ z. c .if1 .taken (ap (λ x. x .outcome) (r .refused .ensures) ∙ z))
 
 all-requires : tie.Need-all-requires
 all-requires c κs =
-    let e = c .before .before .before in
-    (wanted (input (e .before .before)) (on e), on e .passed .k-least)
+    let e = c .before .before .before .before .before .before in
+    (wanted (input (e .before .before)) (on e), on e .passed .k-least, start (e .before .before) .pre)
 
 returns-2 : tie.Need-returns-2
 returns-2 c =
-    let a = c .before .before .before .before in
-    let e = a .before .before .before .before in
+    let a = c .before .before .before .before .before .before .before .before .before .before in
+    let e = a .before .before .before .before .before .before .before in
     cored-reached (input (e .before .before)) _ _ _ (on e) (a .all .ensures)
 
 pub decide-spec : {M : Type 1} → statement M
@@ -37,12 +36,14 @@ decide-spec =
     tie.close
     (tie.spec
     (λ c κs. search needs)
-    (λ c κs. search needs)
     (λ c. search needs)
     (λ c. search needs)
     returns
     (λ c. search needs)
     all-requires
+    (λ c. search needs)
+    (λ c. search needs)
+    (λ c. search needs)
     (λ c. search needs)
     (λ c. search needs)
     returns-2)

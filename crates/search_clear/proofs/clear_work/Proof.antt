@@ -17,11 +17,12 @@ abbrev μ-loop : tie.MeasureT-loop
 
 loop-again : tie.Need-loop-again Inv-loop μ-loop
 loop-again c =
-    let v = c .before .before in
+    let w = c .before .before in
+    let v = w .before .before .before .before in
     let u = v .before .before .before .before in
     let a = u .before .before .before in
     let l = a .before .before .args .labels .now in
-    let e = clear-more (a .loop .i) l (a .loop .labels) _ _ (a .loop .inv .2) (u .write64 .ensures) (v .write642 .ensures) in
+    let e = clear-more (a .loop .i) l (a .loop .labels) _ _ _ (a .loop .inv .2) (u .write32 .ensures) (v .write64 .ensures) (w .write642 .ensures) in
     (search needs, ap length e ∙ length-clear _ l, e)
 
 returns : tie.Need-returns Inv-loop μ-loop
@@ -38,6 +39,8 @@ clear-work-spec =
     μ-loop
     (λ c. (omega arith, refl, clear-none _))
     (λ c. search needs)
+    (λ c. search needs)
+    (λ c κs. search needs)
     (λ c. search needs)
     (λ c κs. search needs)
     (λ c. search needs)

@@ -43,8 +43,8 @@ drives-spec =
     (tie.spec
     (λ c κs. search needs)
     (λ c. omega (arith, few (c .before)))
-    (λ c κs. search needs)
+    (λ c κs. (start (c .before) .pre .2, λ e. omega (arith, few (c .before), start (c .before) .pre .1)))
     returns
     (λ c. omega (arith, few (c .before)))
-    (λ c κs. (number-is (c .before), omega arith))
+    (λ c κs. (number-is (c .before), omega arith, start (c .before) .pre .2, λ e. omega (arith, few (c .before), start (c .before) .pre .1), few (c .before)))
     returns-2)

@@ -41,7 +41,9 @@ cast-arc : tie.Need-cast-arc Inv-loop μ-loop
 cast-arc c = omega (arith, arc-below (c .before), few-records (start (c .before .before) .pre .0))
 
 shared-requires : tie.Need-shared-requires Inv-loop μ-loop
-shared-requires c κs = (start (c .before .before) .pre .0, arc-below (c .before))
+shared-requires c κs =
+    let s = start (c .before .before) in
+    (s .pre .0, arc-below (c .before), λ i j le h e. absurd (omega (arith, e, s .pre .3 i (omega arith), few-records (s .pre .0))))
 
 -- the total after a turn
 more : (c : tie.After-shared Inv-loop μ-loop)

@@ -3,9 +3,11 @@
 use mathlib.Core.Path.{_≡_, sym, ap, ap₂, subst, _∙_}
 use Prim.Native.Nat.{ℕ, _+_, _<_}
 use native.Mathlib.Omega.{arith}
-use lib.ListN.{length}
+use lib.ListN.{length, getD}
+use mir.Syntax.{w64}
+use mir.Val.{Fits}
 use borrow.Author.Needs.{needs}
-use Rattle.search_ask.proofs.AskLaws.{nodes-least}
+use Rattle.search_ask.proofs.AskLaws.{nodes-least, nodes-most}
 use Rattle.ratios.specs.Routes.{Arcs, routeAt}
 use Rattle.ratios.specs.declared.Fraction.{Fraction}
 use Rattle.ratios.proofs.RouteLaws.{slot-within, route-short, overlap-is}
@@ -20,6 +22,10 @@ i-below s = omega arith
 
 j-below : (s : tie.Start) → s .args .j < s .args .i + 1
 j-below s = omega (arith, s .pre .1)
+
+-- a number of arcs fits the word that counts a part
+few : (s : tie.Start) (n : ℕ) → n < s .args .i + 1 → Fits w64 (getD (s .args .counts .now) n 0)
+few s n h = omega (arith, s .pre .0 .fits n h, nodes-most (s .pre .0 .accepted))
 
 route-requires : tie.Need-route-requires
 route-requires c κs =
@@ -48,6 +54,7 @@ overlap-requires c κs =
       s .pre .0 .accepted,
       subst (Arcs (s .args .table .now)) (sym (first-is c)) (s .pre .0 .arcs (s .args .i) (i-below s)),
       omega (arith, ap length (first-is c), route-short (s .pre .0) (s .args .i) (i-below s)),
+      subst (Arcs (s .args .table .now)) (sym (second-is c)) (s .pre .0 .arcs (s .args .j) (j-below s)),
     )
 
 abbrev fraction : ℕ → ℕ → Fraction
@@ -67,9 +74,11 @@ share-spec =
     (tie.spec
     (λ c. search needs)
     (λ c. search needs)
+    (λ c. few (start c) (start c .args .i) (i-below (start c)))
     route-requires
     (λ c. search needs)
     (λ c. search needs)
+    (λ c. let s = start (c .before .before) in few s (s .args .j) (j-below s))
     route-requires-2
     overlap-requires
     (λ c. search needs)

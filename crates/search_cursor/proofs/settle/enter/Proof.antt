@@ -20,7 +20,7 @@ use Rattle.search_ahead.specs.Cursor.{Cursor}
 use Rattle.search_cursor.specs.Own.{arcIn, ownLast}
 use Rattle.search_cursor.specs.Queue.{Kept}
 use Rattle.search_cursor.proofs.OwnLaws.{own-none, cursor-below, arc-fits}
-use Rattle.search_cursor.proofs.QueueLaws.{tree-stored-before, first-stored-before, comparable-stored, settled, settled-only}
+use Rattle.search_cursor.proofs.QueueLaws.{tree-stored-before, first-stored-before, comparable-stored, settled, settled-only, settled-lists}
 use Rattle.search_cursor.proofs.settle.enter.Statement.{statement}
 use Rattle.search_cursor.proofs.settle.enter.Tie as tie
 
@@ -90,6 +90,7 @@ returns c =
     let most = lengths-most (s .pre .0 .searching .accepted) in
     let low : s .args .n < s .args .n + 1 = omega arith in (
       settled-only (query s) (s .args .labels .now) (s .args .n + 1) (s .args .n) (a .advance .result) st most low (fits a) _ (d .store .ensures) (earlier s) (chain s) _ (u .enter .ensures .0),
+      settled-lists (query s) (s .args .labels .now) (s .args .n + 1) (s .args .n) (a .advance .result) st most low (fits a) _ (d .store .ensures) (earlier s) (chain s) _ (u .enter .ensures .0),
       settled (query s) (s .args .labels .now) (s .args .n + 1) (s .args .n) (a .advance .result) st most low (fits a) _ (d .store .ensures) (earlier s) (chain s) _ (u .enter .ensures .0)
           (others s) (right a) _ (u .enter .ensures .1) (u .enter .ensures .2),
     )

@@ -17,7 +17,7 @@ use Rattle.search_ask.proofs.AskLaws.{lengths-most}
 use Rattle.search_ahead.specs.Cursor.{Cursor}
 use Rattle.search_cursor.specs.Own.{arcIn, ownLast}
 use Rattle.search_cursor.proofs.OwnLaws.{cursor-below, arc-fits}
-use Rattle.search_cursor.proofs.QueueLaws.{tree-stored, comparable-stored, settled, settled-only}
+use Rattle.search_cursor.proofs.QueueLaws.{tree-stored, comparable-stored, settled, settled-only, settled-lists}
 use Rattle.search_cursor.proofs.settle.settle.Statement.{statement}
 use Rattle.search_cursor.proofs.settle.settle.Tie as tie
 
@@ -78,6 +78,7 @@ returns c =
     let st = s .pre .0 .searching .standing in
     let most = lengths-most (s .pre .0 .searching .accepted) in (
       settled-only (query s) (s .args .labels .now) (s .args .x .n) (s .args .x .label) (a .advance .result) st most (s .pre .1) (fits a) _ (d .store .ensures) (earlier s) (last s) _ (u .update .ensures .0),
+      settled-lists (query s) (s .args .labels .now) (s .args .x .n) (s .args .x .label) (a .advance .result) st most (s .pre .1) (fits a) _ (d .store .ensures) (earlier s) (last s) _ (u .update .ensures .0),
       settled (query s) (s .args .labels .now) (s .args .x .n) (s .args .x .label) (a .advance .result) st most (s .pre .1) (fits a) _ (d .store .ensures) (earlier s) (last s) _ (u .update .ensures .0)
           (s .pre .3 .kept) (right a) _ (u .update .ensures .1) (u .update .ensures .2),
     )

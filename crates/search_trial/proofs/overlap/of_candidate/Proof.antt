@@ -18,7 +18,7 @@ use Rattle.labels.proofs.OverlapLaws.{length-overlapsOf, overlaps-at}
 use Rattle.labels.specs.Chain.{chainAt}
 use Rattle.search_ask.specs.declared.Ask.{Ask}
 use Rattle.search_ask.specs.Ask.{netFor, width}
-use Rattle.search_ask.specs.Earlier.{routeIn, earlierIn}
+use Rattle.search_ask.specs.Earlier.{routeIn, earlierIn, Formed}
 use Rattle.search_ask.proofs.AskLaws.{nodes-least, lengths-most}
 use Rattle.search_ask.proofs.EarlierLaws.{slot-end, length-earlierIn, getD-earlierIn, mem-earlierIn}
 use Rattle.search_driven.proofs.MarksLaws.{unmarked}
@@ -67,6 +67,7 @@ share-of-requires c κs =
     let ok = s .pre .0 in (
       ok .searching .accepted,
       ok .among .arc-below,
+      subst Formed (sym (c .slot .ensures)) (ok .formed (a .loop .j) (c .before .loop-test .taken)),
       λ e.
           subst (λ l. driven (roadsOf (s .args .table .now)) (routeIn l) (s .args .x .c .arc) ≡ false) (sym (c .slot .ensures))
           (unmarked (s .pre .1) (s .args .x .c .arc) (ok .among .arc-below) (sym (a .before .may-drive .ensures) ∙ e) _

@@ -12,7 +12,7 @@ returns c =
     let s = c .before .before .before in
     sym
     (shared-none (s .args .ask .nodes) (s .args .table .now) (s .args .slot .now) (s .args .arc) (good-size _ _ (s .pre .0 .no-fault) .3) (s .pre .1)
-    (s .pre .2 (not-true _ (c .if1 .taken))))
+    (s .pre .3 (not-true _ (c .if1 .taken))))
 
 pub share-of-spec : {M : Type 1} → statement M
 share-of-spec = tie.close (tie.spec returns (λ c κs. search needs) (λ c. search needs))

@@ -11,9 +11,9 @@ use borrow.Author.Tests.{le-leb, lt-leb}
 use Rattle.lists.specs.Tests.{every}
 use Rattle.lists.proofs.LoopLaws.{rest, each-done, each-step, each-stop, from-first}
 use Rattle.labels.specs.Field.{overlapAt}
-use Rattle.search_trial.specs.Trial.{noneGreater}
-use Rattle.search_trial.proofs.no_greater.Statement.{statement}
-use Rattle.search_trial.proofs.no_greater.Tie as tie
+use Rattle.search_lists.specs.Listed.{noneGreater}
+use Rattle.search_lists.proofs.list.no_greater.Statement.{statement}
+use Rattle.search_lists.proofs.list.no_greater.Tie as tie
 
 abbrev test : List ℕ → ℕ → List ℕ → ℕ → Bool
 test labels k own j = leb (overlapAt labels k j) (getD own j 0)

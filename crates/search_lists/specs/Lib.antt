@@ -1,0 +1,3 @@
+pub mod Link
+pub mod Listed
+pub mod Run
