@@ -1,14 +1,15 @@
 /* The library against two baselines in C, the plain one and the best one: times by size, k and threshold; with road numbers beside zeros; growth of time with labels;
- * large queries; times of a road file and of files of accepted plans; the stack that each call needs.
+ * large queries; via routes against a plain C of theirs; times of a road file and of files of accepted plans; the stack that each call needs.
  *
  *     bench [--quick | --large]     --quick: only drawn tables and the rows of the smallest network, with three legs; --large: the large queries to the library too
  *
- * Each query is put to all three, and all their results are compared. Exits 1 if any differ, or if the library leaves a byte it should not. */
+ * Each query is put to all three, one for via routes to the library and their plain C, and all results are compared. Exits 1 if any differ, or if the library leaves a byte it should not. */
 #define _POSIX_C_SOURCE 200809L
 
 #include "baseline.h"
 #include "best.h"
 #include "network.h"
+#include "svp.h"
 
 #include <inttypes.h>
 #include <math.h>
@@ -34,12 +35,14 @@
 #define QUICK_TRIALS 400
 
 #define JUNK 0xa5
-#define MARGIN 4 /* labels, words and summaries of junk on either side of what is lent */
+#define MARGIN 4 /* labels, words, summaries and nodes' working rooms of junk on either side of what is lent */
+#define NODE_WORK 64 /* bytes of working room for each node */
 
 struct lent {
     _Alignas(16) uint8_t labels[(MARGIN + OJEONBUT_LABELS + MARGIN) * OJEONBUT_LABEL];
     uint32_t area[MARGIN + OJEONBUT_ROUTES * (OJEONBUT_NODES - 1) + MARGIN];
     ojeonbut_summary summaries[MARGIN + OJEONBUT_ROUTES + MARGIN];
+    uint8_t work[(MARGIN + OJEONBUT_NODES + MARGIN) * NODE_WORK]; /* of via routes */
 };
 
 struct query {
@@ -48,6 +51,7 @@ struct query {
     uint32_t k, a, b;
     size_t room;
     const uint8_t *closed; /* a byte for each arc, or NULL for the call without closures */
+    const uint8_t *second; /* for via routes, which take closures; or NULL */
 };
 
 /* What the queries of a row add up to. */
@@ -63,17 +67,20 @@ struct size {
     uint32_t width, height, legs;
 };
 
-/* The two calls of a search. */
+/* The calls of a search, the two with labels or the one for via routes, or all. */
 struct search {
     ojeonbut_reply (*query)(const uint8_t *, size_t, uint32_t, uint32_t, uint32_t, uint32_t, uint32_t, uint32_t, uint8_t *, size_t, uint32_t *, size_t, ojeonbut_summary *,
                             size_t);
     ojeonbut_reply (*query_closed)(const uint8_t *, size_t, uint32_t, uint32_t, uint32_t, uint32_t, uint32_t, uint32_t, const uint8_t *, size_t, uint8_t *, size_t,
                                    uint32_t *, size_t, ojeonbut_summary *, size_t);
+    ojeonbut_reply (*query_via)(const uint8_t *, size_t, const uint8_t *, size_t, uint32_t, uint32_t, uint32_t, uint32_t, uint32_t, uint32_t, const uint8_t *, size_t,
+                                uint32_t *, size_t, ojeonbut_summary *, size_t, uint8_t *, size_t);
 };
 
-static const struct search library_search = {ojeonbut_query, ojeonbut_query_closed};
-static const struct search baseline_search = {baseline_query, baseline_query_closed};
-static const struct search best_search = {best_query, best_query_closed};
+static const struct search library_search = {ojeonbut_query, ojeonbut_query_closed, ojeonbut_query_via};
+static const struct search baseline_search = {baseline_query, baseline_query_closed, NULL};
+static const struct search best_search = {best_query, best_query_closed, NULL};
+static const struct search svp_search = {NULL, NULL, svp_query_via};
 
 static struct network net, numbered;
 static struct lent of_library, of_baseline, of_best;
@@ -102,12 +109,22 @@ static void make(struct network *n, uint32_t width, uint32_t height, uint32_t lo
     check(n);
 }
 
+/* Apart, so that its many arguments take no stack of the other queries'. */
+static __attribute__((noinline)) ojeonbut_reply ask_via(const struct search *search, const struct query *q, struct lent *m)
+{
+    const struct network *n = q->net;
+    return search->query_via(n->table, n->bytes, q->second, n->bytes, n->nodes, q->leg.start, q->leg.goal, q->k, q->a, q->b, q->closed, n->bytes / OJEONBUT_RECORD,
+                             m->area + MARGIN, q->k * (n->nodes - 1), m->summaries + MARGIN, q->k, m->work + MARGIN * NODE_WORK, n->nodes * NODE_WORK);
+}
+
 /* Exactly what the answer needs is lent, out of the middle of m. */
 static ojeonbut_reply ask(const struct search *search, const struct query *q, struct lent *m)
 {
     const struct network *n = q->net;
     uint8_t *labels = m->labels + MARGIN * OJEONBUT_LABEL;
     size_t label_bytes = q->room * OJEONBUT_LABEL, words = q->k * (n->nodes - 1);
+    if (q->second)
+        return ask_via(search, q, m);
     if (!q->closed)
         return search->query(n->table, n->bytes, n->nodes, q->leg.start, q->leg.goal, q->k, q->a, q->b, labels, label_bytes, m->area + MARGIN, words, m->summaries + MARGIN,
                              q->k);
@@ -123,6 +140,8 @@ static double timed(const struct search *search, const struct query *q, struct l
     memset(m->labels, JUNK, bytes_of_labels(q));
     memset(m->area, JUNK, sizeof m->area);
     memset(m->summaries, JUNK, sizeof m->summaries);
+    if (q->second)
+        memset(m->work, JUNK, sizeof m->work);
     double begin = seconds();
     *reply = ask(search, q, m);
     return seconds() - begin;
@@ -180,6 +199,11 @@ static const char *difference(const struct query *q, ojeonbut_reply library, oje
     if (!only(m->summaries, m->summaries + MARGIN, JUNK) ||
         !only(m->summaries + MARGIN + q->k, (const uint8_t *)m->summaries + sizeof m->summaries, JUNK))
         return "summaries before or after those lent";
+    const uint8_t *work = m->work + MARGIN * NODE_WORK, *work_end = work + q->net->nodes * NODE_WORK;
+    if (q->second && !only(work, work_end, 0))
+        return "working room not all zero afterwards";
+    if (q->second && (!only(m->work, work, JUNK) || !only(work_end, m->work + sizeof m->work, JUNK)))
+        return "bytes before or after the working room";
     return NULL;
 }
 
@@ -546,6 +570,101 @@ static void table_of_large(bool with_library)
     row_of_fan("a node's arcs, to as many as may be, lengths drawn", OJEONBUT_NODES - 2, LONGEST, with_library);
 }
 
+static uint8_t second[OJEONBUT_ARCS * OJEONBUT_RECORD];
+static const uint8_t none_closed[OJEONBUT_ARCS];
+
+/* What the via queries of a row add up to. */
+struct via_row {
+    uint32_t queries, agreed;
+    double library, svp;  /* seconds */
+    uint32_t found, full; /* how many queries have all k routes; of how many the exact search ends in 11 */
+    uint32_t both;        /* how many have a second route by either */
+    double longer;        /* by how much of the exact second route's length the other is longer, of all these */
+};
+
+/* Whether the exact call's second route is there where it has to be, and no longer. `exact` stands in of_best, the via routes in of_library. */
+static bool second_as_due(ojeonbut_reply exact, struct via_row *row)
+{
+    const ojeonbut_summary *via = &of_library.summaries[MARGIN + 1], *least = &of_best.summaries[MARGIN + 1];
+    if (via->arcs == 0)
+        return true;
+    if (least->arcs == 0)
+        return exact.outcome == OJEONBUT_ROOM;
+    row->both++;
+    row->longer += ((double)via->length - (double)least->length) / (double)least->length;
+    return least->length <= via->length;
+}
+
+/* Puts the query to the library and the plain C, and the exact one, without via, to the best C: the library's answers to it, as the rows above show, are the same. */
+static void measure_via(const struct query *q, struct via_row *row)
+{
+    ojeonbut_reply library, svp, exact;
+    double library_first = timed(&library_search, q, &of_library, &library), svp_first = timed(&svp_search, q, &of_baseline, &svp);
+    struct query without = *q;
+    without.second = NULL;
+    without.room = OJEONBUT_LABELS;
+    timed(&best_search, &without, &of_best, &exact);
+    const char *what = difference(q, library, svp);
+    if (!what && !second_as_due(exact, row))
+        what = "an exact second route is missing or longer";
+    if (what && queries == agreed) {
+        printf("the first difference: via routes, library and plain C: %s\n  network %" PRIu32 " x %" PRIu32 ", start %" PRIu32 ", goal %" PRIu32 ", k %" PRIu32
+               ", threshold %" PRIu32 "/%" PRIu32 "\n",
+               what, q->net->width, q->net->height, q->leg.start, q->leg.goal, q->k, q->a, q->b);
+        print_results("library", q, library, &of_library);
+        print_results("plain C", q, svp, &of_baseline);
+        print_results("exact", q, exact, &of_best);
+    }
+    queries++;
+    agreed += !what;
+    row->queries++;
+    row->agreed += !what;
+    row->found += svp.outcome == OJEONBUT_FOUND;
+    row->full += exact.outcome == OJEONBUT_ROOM;
+    row->library += settled(&library_search, q, &of_library, library_first);
+    row->svp += settled(&svp_search, q, &of_baseline, svp_first);
+}
+
+static void row_of_via(const char *name, const struct leg *legs, uint32_t count, uint32_t k)
+{
+    struct via_row row = {0};
+    for (uint32_t i = 0; i < count; i++) {
+        struct query q = {.net = &net, .leg = legs[i], .k = k, .a = 1, .b = 2, .closed = none_closed, .second = second};
+        measure_via(&q, &row);
+    }
+    printf("%6" PRIu32 " %2" PRIu32 "  %-8s %4" PRIu32 " %7" PRIu32 " %12.3f %12.3f %8.2f %7" PRIu32 " %9" PRIu32 " %6" PRIu32, net.nodes, k, name, row.queries, row.agreed,
+           row.library / row.queries * 1e3, row.svp / row.queries * 1e3, row.library / row.svp, row.found, row.full, row.both);
+    if (row.both > 0)
+        printf(" %9.2f\n", 100 * row.longer / row.both);
+    else
+        printf(" %9s\n", "-");
+    fflush(stdout);
+}
+
+static void table_of_via(bool quick)
+{
+    printf("\nVia routes, 1/2. Legs between opposite corners, and between drawn nodes. Ratio: the library's time over that of the plain C (bench/svp.c). Found: of how many legs there\n"
+           "are k via routes. Exact 11: of how many the exact query has too few labels in room for %d, by the best C. Both: how many have a second route either way. Longer: by\n"
+           "how many percent of the exact one the via one is longer, the mean.\n"
+           " nodes  k  legs     legs  agreed   library ms     plain ms    ratio   found  exact 11   both  longer %%\n",
+           OJEONBUT_LABELS);
+    for (uint32_t side = 32; side <= (quick ? 32 : 64); side *= 2) {
+        make(&net, side, side, LONGEST);
+        svp_second(net.table, net.bytes, net.nodes, second);
+        const struct leg corners[] = {{0, net.nodes - 1}, {net.nodes - 1, 0}, {side - 1, net.nodes - side}, {net.nodes - side, side - 1}};
+        struct leg drawn[LEGS];
+        uint64_t seed = net.nodes;
+        for (uint32_t i = 0; i < LEGS; i++) {
+            drawn[i].start = network_draw(&seed, net.nodes);
+            drawn[i].goal = (drawn[i].start + 1 + network_draw(&seed, net.nodes - 1)) % net.nodes;
+        }
+        for (uint32_t k = 2; k <= (quick ? 2 : 4); k += 2) {
+            row_of_via("corners", corners, quick ? 1 : 4, k);
+            row_of_via("drawn", drawn, quick ? QUICK_LEGS : LEGS, k);
+        }
+    }
+}
+
 /* A drawn query over a drawn small table with many ties, roads of several arcs and closed arcs, in a room that may be too small. */
 static void trial(uint64_t *seed, struct row *row)
 {
@@ -601,13 +720,15 @@ static void work_query(void) { answered = ask(&library_search, asked, &of_librar
 /* The same query with ratios, no road closed. */
 static void work_ratios(void)
 {
-    static uint8_t none_closed[OJEONBUT_ARCS];
     static ojeonbut_ratios ratios[OJEONBUT_ROUTES];
     const struct query *q = asked;
     answered = ojeonbut_query_ratios(q->net->table, q->net->bytes, q->net->nodes, q->leg.start, q->leg.goal, q->k, q->a, q->b, none_closed, q->net->bytes / OJEONBUT_RECORD,
                                      of_library.labels + MARGIN * OJEONBUT_LABEL, q->room * OJEONBUT_LABEL, of_library.area + MARGIN, q->k * (q->net->nodes - 1),
                                      of_library.summaries + MARGIN, q->k, ratios, q->k);
 }
+
+static void work_via(void) { answered = ask_via(&library_search, asked, &of_library); }
+static void work_run(void) { answered.number = ojeonbut_run(net.table, net.bytes, second, net.bytes, net.nodes, 1, net.nodes / 2).bytes; }
 
 static uint8_t text[24 * (OJEONBUT_ARCS + 1)], table_again[OJEONBUT_ARCS * OJEONBUT_RECORD];
 static ojeonbut_made written, read_again;
@@ -672,6 +793,22 @@ static void stack_of_query(uint32_t longest)
         labels += of_baseline.summaries[MARGIN + r].labels;
     printf("  ojeonbut_query      %7zu  k = %d, 4/5, 2 + 2 blocks, lengths from 1 to %" PRIu32 ", %" PRIu64 " labels in all; with ratios %zu\n", bytes, OJEONBUT_ROUTES, longest, labels,
            with_ratios);
+    fflush(stdout);
+}
+
+/* Of via routes from a corner to the opposite one. */
+static void stack_of_via(uint32_t longest)
+{
+    make(&net, 64, 64, longest);
+    svp_second(net.table, net.bytes, net.nodes, second);
+    struct query q = {.net = &net, .leg = {0, net.nodes - 1}, .k = OJEONBUT_ROUTES, .a = 4, .b = 5, .closed = none_closed, .second = second};
+    asked = &q;
+    memset(&of_library, JUNK, sizeof of_library);
+    size_t bytes = stack_of(work_via);
+    ojeonbut_reply svp = ask(&svp_search, &q, &of_baseline);
+    queries++;
+    agreed += !difference(&q, answered, svp);
+    printf("  ojeonbut_query_via  %7zu  k = %d, 4/5, from corner to corner, lengths from 1 to %" PRIu32 "\n", bytes, OJEONBUT_ROUTES, longest);
     fflush(stdout);
 }
 
@@ -857,10 +994,12 @@ static void stack_of_plans(void)
 static void table_of_stack(void)
 {
     make(&net, 64, 64, LONGEST);
+    svp_second(net.table, net.bytes, net.nodes, second);
     printf("\nStack: bytes that a call writes below those of an empty call, on a painted stack. The table has %" PRIu32 " nodes and %zu arcs.\n", net.nodes,
            net.bytes / OJEONBUT_RECORD);
     printf("  ojeonbut_check      %7zu\n", stack_of(work_check));
     printf("  ojeonbut_arcs_from  %7zu\n", stack_of(work_arcs_from));
+    printf("  ojeonbut_run        %7zu\n", stack_of(work_run));
     if (ROADS) {
         printf("  ojeonbut_write_roads %6zu\n", stack_of(work_write_roads));
         printf("  ojeonbut_read_roads %7zu\n", stack_of(work_read_roads));
@@ -868,8 +1007,10 @@ static void table_of_stack(void)
     stack_of_plans();
     stack_of_query(LONGEST);
     stack_of_query(1);
-    printf("Memory: %d bytes a label, lent by the caller: %d for room %d, %d for the greatest room.\n", OJEONBUT_LABEL, ROOM * OJEONBUT_LABEL, ROOM,
-           OJEONBUT_LABELS * OJEONBUT_LABEL);
+    stack_of_via(LONGEST);
+    stack_of_via(1);
+    printf("Memory: %d bytes a label, lent by the caller: %d for room %d, %d for the greatest room. Of via routes %d bytes a node: %d for the most nodes.\n", OJEONBUT_LABEL,
+           ROOM * OJEONBUT_LABEL, ROOM, OJEONBUT_LABELS * OJEONBUT_LABEL, NODE_WORK, OJEONBUT_NODES * NODE_WORK);
 }
 
 int main(int argc, char **argv)
@@ -889,6 +1030,7 @@ int main(int argc, char **argv)
     trials(quick ? QUICK_TRIALS : TRIALS);
     table_of_rows(quick);
     table_of_numbers(quick);
+    table_of_via(quick);
     if (!quick) {
         table_of_growth();
         table_of_large(large);

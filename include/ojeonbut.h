@@ -17,7 +17,7 @@ extern "C" {
 #endif
 
 /* The version that this header declares; ojeonbut_version() gives the archive's. It goes up with every change that a caller can see: docs/CHANGES.md. */
-#define OJEONBUT_VERSION 6
+#define OJEONBUT_VERSION 7
 
 /* A road table: arc records of 16 bytes, little-endian: start node, end node, length, road number (bytes 12 to 15); 4 bytes each. Records stand in order of start node.
  * An arc's number is its record's, from 0; a node's is below the node count. Arcs that have one road number other than 0 are of one road, as both sides of a street are;
@@ -29,6 +29,7 @@ extern "C" {
 #define OJEONBUT_ROUTES 8       /* the most routes of a query or of a stored plan; the least is 1 */
 #define OJEONBUT_LABEL 96       /* bytes of a label */
 #define OJEONBUT_LABELS 65535   /* the most whole labels that may be lent */
+#define OJEONBUT_WORK 64        /* bytes of working room for each node */
 #define OJEONBUT_NONE 4294967295u /* a word of a slot that holds no arc */
 #define OJEONBUT_PLAN_RECORD 32 /* bytes of a record in a file of accepted plans */
 #define OJEONBUT_PLAN_WIDTH 65535 /* the most words of a slot that a plan is stored from */
@@ -45,7 +46,7 @@ enum ojeonbut_outcome {
     OJEONBUT_ENDS = 7,      /* start or goal not below the node count, or equal */
     OJEONBUT_WANTED = 8,    /* k outside 1 to 8 */
     OJEONBUT_THRESHOLD = 9, /* b outside 1 to 1,000, or a not below b */
-    OJEONBUT_BUFFERS = 10,  /* area under k * (nodes - 1) words, fewer than k summaries or ratios, or over 65,535 whole labels; the area lent for a table or a text too short; a slot narrower than a route of the plan, or fewer words than its slots */
+    OJEONBUT_BUFFERS = 10,  /* area under k * (nodes - 1) words, fewer than k summaries or ratios, over 65,535 whole labels, or working room under 64 bytes for each node; the area lent for a table or a text too short; a slot narrower than a route of the plan, or fewer words than its slots */
     OJEONBUT_ROOM = 11,     /* a round needs more labels than were lent; number: the round, from 1 */
     OJEONBUT_SIZE = 13,     /* node count outside 1 to 4,096, table bytes not a multiple of 16, or over 16,384 records */
     OJEONBUT_FILE = 14,     /* a road file is malformed; number: its first line, from 1, that is none of the permitted ones, or the number a missing line would have */
@@ -54,6 +55,7 @@ enum ojeonbut_outcome {
     OJEONBUT_PLAN_REQUEST = 17, /* plan number zero; on storing, not 1 to 8 routes, an empty one, slots out of form, or an arc number above 16,383 */
     OJEONBUT_PLAN_THERE = 18, /* the plan is already there, on storing; it is absent, on fetching or withdrawing */
     OJEONBUT_PLAN_ROOM = 19, /* fewer free records than the plan needs */
+    OJEONBUT_SECOND = 20,   /* a second table is not the first one's arcs in order of end node and then arc number */
     OJEONBUT_NUMBERED = 27  /* a table to be written as a road file has a road number other than 0; number: the record, the lowest such */
 };
 
@@ -123,6 +125,31 @@ ojeonbut_reply ojeonbut_query_closed(const uint8_t *table, size_t table_bytes, u
 ojeonbut_reply ojeonbut_query_ratios(const uint8_t *table, size_t table_bytes, uint32_t nodes, uint32_t start, uint32_t goal, uint32_t k, uint32_t a, uint32_t b,
                                      const uint8_t *closed, size_t closed_bytes, uint8_t *labels, size_t label_bytes, uint32_t *area, size_t area_words,
                                      ojeonbut_summary *summaries, size_t summary_count, ojeonbut_ratios *ratios, size_t ratio_count);
+
+/* The query for via routes, for tables that fill any label room. For each node, the first route from start to it (the first of all in the order below) is joined to the first
+ * route from it to goal: a candidate. A node that lacks either has none; candidates that visit a node twice are passed over, and of equal ones all but one. They are taken in
+ * order: the shorter first, of equally long ones the one with the lower arc number where they first differ. Each is kept whose overlap with every route kept before is at most
+ * a/b of that route's length, until k are kept. Overlap and threshold are those of ojeonbut_query, and closures those of ojeonbut_query_closed: via routes have open arcs only.
+ * Unless it ends in 11, ojeonbut_query_closed has the same first route; and where there is a second here it has, for 2 routes or more, a second too, and that is no longer.
+ *
+ * `second` is the second table: the records of `table`, the same number of bytes, every record whole, in order of end node and, of one end node, of arc number. Closed arcs
+ * stand in it too. Arc numbers are those of the first table throughout.
+ * Checks come in the order 13, the records (2 to 6), 20, 15, 7, 8, 9, 10. 10 is: area under k * (nodes - 1) words, fewer than k summaries, or work_bytes below
+ * OJEONBUT_WORK * nodes. The outcome is never 11: no labels are lent.
+ *
+ * After a refusal (2 to 10, 13, 15 and 20) no byte of any buffer is changed. After 0 (k routes) or 1 (fewer, and no candidate is left):
+ *   area       slot r (from 0) is words r * (nodes - 1) up to (r + 1) * (nodes - 1): the arc numbers of the route kept as number r + 1 in order, then OJEONBUT_NONE; all words
+ *              of a slot without a route are OJEONBUT_NONE. Words after the k-th slot are untouched.
+ *   summaries  the first k: length and arcs of each route, and label count 0; three zeros where there is no route. Summaries after the k-th are untouched.
+ *   work       every byte is zero, those past OJEONBUT_WORK * nodes too. What it holds at first does not matter. */
+ojeonbut_reply ojeonbut_query_via(const uint8_t *table, size_t table_bytes, const uint8_t *second, size_t second_bytes, uint32_t nodes, uint32_t start, uint32_t goal,
+                                  uint32_t k, uint32_t a, uint32_t b, const uint8_t *closed, size_t closed_bytes, uint32_t *area, size_t area_words,
+                                  ojeonbut_summary *summaries, size_t summary_count, uint8_t *work, size_t work_bytes);
+
+/* The run of one node, by direction: 0, where the records of the arcs that leave `node` stand in `table`; 1, where those of the arcs that come to it stand in `second`, by rising
+ * arc number. The part's place is one in that table. { 0, 0 } for another direction, where the table has a fault (13 or 2 to 6), where the second table is not its arcs in order
+ * of end node and then arc number (20), or where `node` is not below `nodes`. Writes nothing. */
+ojeonbut_part ojeonbut_run(const uint8_t *table, size_t table_bytes, const uint8_t *second, size_t second_bytes, uint32_t nodes, uint32_t direction, uint32_t node);
 
 /* The step along a node's run that the query takes: the first arc from `place` on that is open, or `end` where there is none before it. Past the bytes an arc is open;
  * where `place` is not below `end` it is `end`. Writes nothing. */

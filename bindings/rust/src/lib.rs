@@ -3,13 +3,16 @@
 //! What that header asks of a caller, Rust's slices ensure: they are valid for their lengths, and a `&mut` one overlaps no other.
 
 /// The version of include/ojeonbut.h that these calls are for. Each call asks once that the archive linked is of it, and panics where it is not.
-pub const VERSION: u32 = 6;
+pub const VERSION: u32 = 7;
 
 /// Bytes of a record in a file of accepted plans.
 pub const PLAN_RECORD: usize = 32;
 
 /// The most words of a slot that a plan is stored from.
 pub const PLAN_WIDTH: u32 = 65535;
+
+/// Bytes of working room for each node.
+pub const WORK: usize = 64;
 
 /// A word of a slot that holds no arc.
 pub const NONE: u32 = u32::MAX;
@@ -35,7 +38,7 @@ pub mod outcome {
     pub const WANTED: u32 = 8;
     /// b outside 1 to 1,000, or a not below b.
     pub const THRESHOLD: u32 = 9;
-    /// Area or summaries too few, labels too many, or too short an area for a table, a text or a plan's slots.
+    /// Area, summaries or working room too few, labels too many, or too short an area for a table, a text or a plan's slots.
     pub const BUFFERS: u32 = 10;
     /// A round needs more labels than were lent.
     pub const ROOM: u32 = 11;
@@ -53,6 +56,8 @@ pub mod outcome {
     pub const PLAN_THERE: u32 = 18;
     /// Fewer free records than the plan needs.
     pub const PLAN_ROOM: u32 = 19;
+    /// A second table is not the first one's arcs in order of end node and then arc number.
+    pub const SECOND: u32 = 20;
     /// A table to be written as a road file has a road number other than 0; beside it stands the record.
     pub const NUMBERED: u32 = 27;
 }
@@ -69,6 +74,13 @@ pub struct Reply {
 struct Part {
     place: usize,
     bytes: usize,
+}
+
+/// Which arcs of a node: those that leave it, which stand in the first table, or those that come to it, in the second.
+#[derive(Clone, Copy, Debug, PartialEq, Eq)]
+pub enum Direction {
+    Leaving = 0,
+    Coming = 1,
 }
 
 /// One round: the answer's length and number of arcs, and the round's label count.
@@ -159,6 +171,27 @@ mod raw {
             ratios: *mut Ratios,
             ratio_count: usize,
         ) -> Reply;
+        pub fn ojeonbut_query_via(
+            table: *const u8,
+            table_bytes: usize,
+            second: *const u8,
+            second_bytes: usize,
+            nodes: u32,
+            start: u32,
+            goal: u32,
+            k: u32,
+            a: u32,
+            b: u32,
+            closed: *const u8,
+            closed_bytes: usize,
+            area: *mut u32,
+            area_words: usize,
+            summaries: *mut Summary,
+            summary_count: usize,
+            work: *mut u8,
+            work_bytes: usize,
+        ) -> Reply;
+        pub fn ojeonbut_run(table: *const u8, table_bytes: usize, second: *const u8, second_bytes: usize, nodes: u32, direction: u32, node: u32) -> Part;
         pub fn ojeonbut_next_arc(closed: *const u8, closed_bytes: usize, place: usize, end: usize) -> usize;
         pub fn ojeonbut_read_roads(text: *const u8, text_bytes: usize, table: *mut u8, table_bytes: usize) -> Made;
         pub fn ojeonbut_write_roads(table: *const u8, table_bytes: usize, nodes: u32, text: *mut u8, text_bytes: usize) -> Made;
@@ -307,6 +340,59 @@ pub fn query_ratios(
             ratios.len(),
         )
     }
+}
+
+/// The query for via routes while roads are closed: `second` is the table's records in order of end node and then arc number, `work` at least `WORK` bytes for each node.
+#[allow(clippy::too_many_arguments)]
+pub fn query_via(
+    table: &[u8],
+    second: &[u8],
+    nodes: u32,
+    start: u32,
+    goal: u32,
+    k: u32,
+    threshold: (u32, u32),
+    closed: &[u8],
+    area: &mut [u32],
+    summaries: &mut [Summary],
+    work: &mut [u8],
+) -> Reply {
+    ask_version();
+    // SAFETY: each slice is valid for its length; the three that are written are borrowed mutably, so they overlap nothing.
+    unsafe {
+        raw::ojeonbut_query_via(
+            table.as_ptr(),
+            table.len(),
+            second.as_ptr(),
+            second.len(),
+            nodes,
+            start,
+            goal,
+            k,
+            threshold.0,
+            threshold.1,
+            closed.as_ptr(),
+            closed.len(),
+            area.as_mut_ptr(),
+            area.len(),
+            summaries.as_mut_ptr(),
+            summaries.len(),
+            work.as_mut_ptr(),
+            work.len(),
+        )
+    }
+}
+
+/// The run of one node, a part of either table according to direction; empty where the table has a fault, the second is not its arcs in order, or there is no such node.
+pub fn run<'a>(table: &'a [u8], second: &'a [u8], nodes: u32, direction: Direction, node: u32) -> &'a [u8] {
+    ask_version();
+    // SAFETY: both slices are valid for their lengths, and the call only reads them.
+    let part = unsafe { raw::ojeonbut_run(table.as_ptr(), table.len(), second.as_ptr(), second.len(), nodes, direction as u32, node) };
+    let whole = match direction {
+        Direction::Leaving => table,
+        Direction::Coming => second,
+    };
+    &whole[part.place..part.place + part.bytes]
 }
 
 /// The first arc from `place` on that is open, or `end`: the step along a node's run that the query takes.

@@ -1,6 +1,6 @@
 //! The scope's example through the safe calls.
-use ojeonbut::{arcs_from, check, next_arc, outcome, plan_collect, plan_fetch, plan_store, plan_withdraw, query, query_closed, query_ratios, read_roads, version, write_roads};
-use ojeonbut::{Made, Ratios, Reply, Summary, NONE, PLAN_RECORD, PLAN_WIDTH, VERSION};
+use ojeonbut::{arcs_from, check, next_arc, outcome, plan_collect, plan_fetch, plan_store, plan_withdraw, query, query_closed, query_ratios, query_via, read_roads, run, version, write_roads};
+use ojeonbut::{Direction, Made, Ratios, Reply, Summary, NONE, PLAN_RECORD, PLAN_WIDTH, VERSION, WORK};
 
 fn table() -> Vec<u8> {
     let arcs: [[u32; 4]; 5] = [[0, 1, 2, 0], [0, 2, 3, 0], [1, 2, 1, 0], [1, 3, 2, 0], [2, 3, 2, 0]];
@@ -65,6 +65,37 @@ fn ratios() {
     let bits: Vec<_> = shown.iter().map(|x| (x.overlap.to_bits(), x.detour.to_bits())).collect();
     let due = [(0.0, 1.0), (0.5, 1.25), (0.4, 1.25), (0.0, 0.0), (7.0, 7.0)].map(|x: (f64, f64)| (x.0.to_bits(), x.1.to_bits()));
     assert_eq!(bits, due);
+}
+
+#[test]
+fn via_routes() {
+    let table = table();
+    let mut area = [7u32; 10];
+    let mut summaries = [Summary { length: 7, arcs: 7, labels: 7 }; 4];
+    let mut work = [85u8; 4 * WORK + 5];
+    let wrong = query_via(&table, &table[16..], 4, 0, 3, 3, (1, 2), &[0; 4], &mut area, &mut summaries, &mut work);
+    assert_eq!(wrong, Reply { outcome: outcome::SECOND, number: 0 });
+    let few = query_via(&table, &table, 4, 0, 3, 3, (1, 2), &[0; 5], &mut area, &mut summaries, &mut work[..4 * WORK - 1]);
+    assert_eq!(few, Reply { outcome: outcome::BUFFERS, number: 0 });
+    assert!(work.iter().all(|&b| b == 85) && area == [7; 10] && summaries.iter().all(|s| s.length == 7));
+    // its arcs stand in order of end node too, so the table is its own second one; the only other candidate is that of node 2
+    let r = query_via(&table, &table, 4, 0, 3, 3, (1, 2), &[0; 5], &mut area, &mut summaries, &mut work);
+    assert_eq!(r, Reply { outcome: outcome::FEWER, number: 0 });
+    assert_eq!(area, [0, 3, NONE, 0, 2, 4, NONE, NONE, NONE, 7]);
+    let rows: Vec<_> = summaries.iter().map(|s| (s.length, s.arcs, s.labels)).collect();
+    assert_eq!(rows, [(4, 2, 0), (5, 3, 0), (0, 0, 0), (7, 7, 7)]);
+    assert!(work.iter().all(|&b| b == 0));
+}
+
+#[test]
+fn runs_of_either_table() {
+    let arcs: [[u32; 4]; 4] = [[0, 2, 1, 0], [1, 0, 1, 0], [1, 2, 1, 0], [2, 1, 1, 0]];
+    let bytes = |order: [usize; 4]| -> Vec<u8> { order.iter().flat_map(|&a| arcs[a]).flat_map(|v| v.to_le_bytes()).collect() };
+    let (table, second) = (bytes([0, 1, 2, 3]), bytes([1, 3, 0, 2]));
+    assert_eq!(run(&table, &second, 3, Direction::Leaving, 1), &table[16..48]);
+    assert_eq!(run(&table, &second, 3, Direction::Coming, 2), &second[32..64]);
+    assert!(run(&table, &second, 3, Direction::Coming, 3).is_empty() && run(&table, &second, 2, Direction::Coming, 1).is_empty());
+    assert!(run(&table, &bytes([1, 3, 2, 0]), 3, Direction::Coming, 2).is_empty() && run(&table, &table, 3, Direction::Leaving, 1).is_empty());
 }
 
 #[test]

@@ -15,6 +15,7 @@ use Rattle.query_rounds.specs.declared.Got.{Got}
 use Rattle.query_rounds.proofs.Got as G
 use Rattle.query_rounds.proofs.Got.Laws as G′
 use Rattle.query.specs.Query.{Input, Replied, Cored}
+use Rattle.query_via.specs.Via as Via
 
 abbrev pub mach : Got → Val
 mach g = LL.tuple-val G.the-type G′.the-laws (G.the-type .to g)
@@ -38,3 +39,7 @@ module _ (g : Got) (is : Is G.the-row g (mach g ∷ [])) where
 -- the summaries that were written are those due
 pub replied : (i : Input) (g : Got) (xs us : List ℕ) (ys zs : List Summary) → Cored i g xs us → zs ≡ written (g .sums) (g .n) ys → Replied i (g .told) xs us ys zs
 replied i g xs us ys zs said e = record { told = said .told; labels = said .labels; area = said .area; sums = e ∙ said .sums ys }
+
+-- and those of a query for via routes
+pub replied-via : (i : Via.Input) (g : Got) (us ws : List ℕ) (ys zs : List Summary) → Via.Cored i g us ws → zs ≡ written (g .sums) (g .n) ys → Via.Replied i (g .told) us ws ys zs
+replied-via i g us ws ys zs said e = record { told = said .told; area = said .area; work = said .work; sums = e ∙ said .sums ys }

@@ -2,21 +2,30 @@
 use outcome::Told;
 use road_made::Made;
 ghost use mathlib.Core.Path.{_≡_};
+ghost use mathlib.Core.Bool.{false};
 ghost use Prim.Native.Nat.{_<_, min};
 ghost use lib.ListN.{length};
 ghost use Rattle.table.specs.Fault.{tableFault, good};
 ghost use Rattle.closures.specs.Closed.{nextOpen};
 ghost use Rattle.query.specs.Query.{input, inputClosed, Replied};
 ghost use Rattle.query_ratios.specs.Rated.{RepliedRatios};
+ghost use Rattle.second.specs.Second.{wrongSecond};
+ghost use Rattle.query_via.specs.Via.{input as inputVia, Replied as RepliedVia};
 ghost use Rattle.plan_store.specs.Store.{Stored};
 ghost use Rattle.plan_fetch.specs.Fetch.{Fetched};
 ghost use Rattle.plan_change.specs.Change.{Withdrawn, Collected};
 ghost use Rattle.road_read.specs.Read.{Read};
 ghost use Rattle.road_write.specs.Written.{Written};
-ghost use Rattle.ojeonbut.specs.Exported.{version, runPart, partOf, numbersOf, Numbered};
+ghost use Rattle.ojeonbut.specs.Exported.{version, runPart, partOf, comingPart, partBy};
+ghost use Rattle.ojeonbut.specs.Exported.{runPartBy, numbersOf, Numbered};
 
 // OJEONBUT_VERSION of include/ojeonbut.h.
-const VERSION: u32 = 6;
+const VERSION: u32 = 7;
+
+// The directions of ojeonbut_run: the arcs that leave a node, and those that come to it.
+const LEAVING: u32 = 0;
+
+const COMING: u32 = 1;
 
 // A part of a table: the place of its first byte, and its number of bytes.
 #[repr(C)]
@@ -78,6 +87,61 @@ pub extern "C" fn ojeonbut_arcs_from(table: &[u8], nodes: u32, v: u32) -> Part
         return Part { place: 0, bytes: 0 };
     }
     run_part(table, nodes, v)
+}
+
+// The run of the arcs that come to v in a right second table, by its place.
+fn coming_part(table: &[u8], second: &[u8], nodes: u32, v: u32) -> Part
+    requires { ⌜ (tableFault nodes (now table) ≡ good)
+        × (wrongSecond nodes (now table) (now second) ≡ false) × (v < nodes) ⌝ }
+    ensures { λ r. ⌜ r ≡ comingPart (now (second .entry)) v ⌝ }
+{
+    let from = second::coming_start(table, second, nodes, v) * table::arc::RECORD;
+    let to = second::coming_start(table, second, nodes, v + 1) * table::arc::RECORD;
+    Part {
+        place: from,
+        bytes: to - from,
+    }
+}
+
+// The run of v by direction, of a good table and a right second one; empty for another direction.
+fn part_by(table: &[u8], second: &[u8], nodes: u32, direction: u32, v: u32) -> Part
+    requires { ⌜ (tableFault nodes (now table) ≡ good)
+        × (wrongSecond nodes (now table) (now second) ≡ false) × (v < nodes) ⌝ }
+    ensures { λ r. ⌜ r ≡ partBy direction (now (table .entry)) (now (second .entry)) v ⌝ }
+{
+    if direction == LEAVING {
+        return run_part(table, nodes, v);
+    }
+    if direction == COMING {
+        return coming_part(table, second, nodes, v);
+    }
+    Part { place: 0, bytes: 0 }
+}
+
+// Where the run of a node stands in the one table or the other, by direction; an empty part where
+// either table is refused, there is no such node or the direction is none.
+#[no_mangle]
+pub extern "C" fn ojeonbut_run(
+    table: &[u8],
+    second: &[u8],
+    nodes: u32,
+    direction: u32,
+    node: u32,
+) -> Part
+    ensures { λ r. ⌜ r
+        ≡ runPartBy nodes (now (table .entry)) (now (second .entry)) direction node ⌝ }
+{
+    if nodes <= node {
+        return Part { place: 0, bytes: 0 };
+    }
+    let told = table::fault::check(table, nodes);
+    if told.outcome != outcome::FOUND {
+        return Part { place: 0, bytes: 0 };
+    }
+    if second::wrong(table, second, nodes) {
+        return Part { place: 0, bytes: 0 };
+    }
+    part_by(table, second, nodes, direction, node)
 }
 
 // The query: table, node count, start, goal, number of routes, threshold a/b; and three lent
@@ -179,6 +243,49 @@ pub extern "C" fn ojeonbut_query_ratios(
     let n = g.n;
     summary::write(sums, x, n);
     ratios::write(shown, y, n);
+    g.told
+}
+
+// The query for via routes over the open arcs: `second` is the table's arcs in order of end node,
+// `work` the working room.
+#[no_mangle]
+pub extern "C" fn ojeonbut_query_via(
+    table: &[u8],
+    second: &[u8],
+    nodes: u32,
+    s: u32,
+    goal: u32,
+    k: u32,
+    a: u32,
+    b: u32,
+    closed: &[u8],
+    area: &mut [u32],
+    sums: &mut [summary::Summary],
+    work: &mut [u8],
+) -> Told
+    ensures { λ r. ⌜ RepliedVia (inputVia (now (table .entry)) (now (second .entry)) nodes s goal
+        k a b (now (closed .entry)) (now (area .entry)) (length (now (sums .entry)))
+        (now (work .entry))) r
+        (now (area .exit)) (now (work .exit)) (now (sums .entry)) (now (sums .exit)) ⌝ }
+{
+    let lent = sums.len();
+    let g = query_via::core(
+        table,
+        second,
+        nodes,
+        s,
+        goal,
+        k,
+        a,
+        b,
+        closed,
+        area,
+        lent,
+        work,
+    );
+    let x = g.sums;
+    let n = g.n;
+    summary::write(sums, x, n);
     g.told
 }
 

@@ -81,6 +81,10 @@ planThere = 18
 abbrev pub planRoom : ℕ
 planRoom = 19
 
+-- "the second table is not the first one's arcs in order of end node and then arc number" (02.9)
+abbrev pub secondTable : ℕ
+secondTable = 20
+
 -- "the writer meets a road number that isn't zero, with the lowest such record" (02.5)
 abbrev pub numbered : ℕ
 numbered = 27

@@ -40,7 +40,7 @@ struct Done {
 }
 
 // 7, 8 or 9, or 0 where there is none of them.
-fn refusal(ask: Ask, k: u32) -> u32
+pub fn refusal(ask: Ask, k: u32) -> u32
     ensures { λ r. ⌜ r ≡ refusal (queryFor ask [] [] []) k ⌝ }
 {
     if ask.nodes <= ask.s {
@@ -179,7 +179,7 @@ fn got_of(
     }
 }
 
-fn ask_of(nodes: u32, s: u32, goal: u32, a: u32, b: u32) -> Ask
+pub fn ask_of(nodes: u32, s: u32, goal: u32, a: u32, b: u32) -> Ask
     ensures { λ r. ⌜ r ≡ record { nodes = nodes; s = s; goal = goal; a = a; b = b } ⌝ }
 {
     Ask {

@@ -27,7 +27,7 @@ replicate-add (suc m) n v =
     let e : suc m + n ≡ suc (m + n) = omega arith in
     ap (λ k. replicate k v) e ∙ ap (λ l. v ∷ l) (replicate-add m n v)
 
-slots-none : (w k : ℕ) → slots w k [] ≡ replicate (k * w) noNumber
+pub slots-none : (w k : ℕ) → slots w k [] ≡ replicate (k * w) noNumber
 unfolding slots
 slots-none w zero =
     let e : 0 * w ≡ 0 = omega arith in
@@ -52,7 +52,7 @@ patch-past xs l ys w a e h =
     ap₂ (λ x y. x ++ (ys ++ y)) t d ∙ append-assoc xs (take a l) (ys ++ drop e l)
 
 -- an answer more in its slot
-slots-more : (w k : ℕ) (ps : List (List ℕ)) (p rest : List ℕ) → length ps < k → ((x : List ℕ) → List·Memᴰ x ps → length x ≤ w)
+pub slots-more : (w k : ℕ) (ps : List (List ℕ)) (p rest : List ℕ) → length ps < k → ((x : List ℕ) → List·Memᴰ x ps → length x ≤ w)
     → patch (length ps * w) (length ps * w + w) (slots w k ps ++ rest) (slotOf w p) ≡ slots w k (ps ++ (p ∷ [])) ++ rest
 unfolding slots patch
 slots-more w zero ps p rest h s = absurd (omega arith)

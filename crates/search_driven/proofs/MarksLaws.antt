@@ -188,22 +188,35 @@ module _ (t : List ℕ) (a x : ℕ) (below : a < records t) (same : sameRoad (ro
 
 -- ---- the earlier answers
 
-marks-driven : (t area : List ℕ) (w r : ℕ) (marks : List ℕ) → ((j : ℕ) → j < r → HasMarks t (slot w j area) marks)
-    → (a : ℕ) → a < records t → (p : List ℕ) → List·Memᴰ p (earlierIn w r area) → driven (roadsOf t) p a ≡ true → marked marks (placeAt t a) ≡ true
-unfolding earlierIn driven routeIn
-marks-driven t area w r marks h a below p m e =
-    let j = Memᴰ·of-map (λ j. routeIn (slot w j area)) (upFrom 0 r) m in
-    let x = any-e (sameRoad (roadsOf t) a) p (subst T (sym e) tt) in
+slot-driven : (t words marks : List ℕ) → HasMarks t words marks → (a : ℕ) → a < records t → driven (roadsOf t) (routeIn words) a ≡ true → marked marks (placeAt t a) ≡ true
+unfolding driven routeIn
+slot-driven t words marks h a below e =
+    let x = any-e (sameRoad (roadsOf t) a) (routeIn words) (subst T (sym e) tt) in
     let same : sameRoad (roadsOf t) a (x .0) ≡ true = T-true _ (x .2) in
-    let on-slot = keep-e (λ y. not (eqb y noNumber)) (x .0) (slot w (j .0) area) (subst (List·Memᴰ (x .0)) (sym (j .2)) (x .1)) in
-    rw (same-place t a (x .0) below same) (h (j .0) (omega (arith, upFrom-e 0 r (j .0) (j .1))) (x .0) (on-slot .0) (same-below t a (x .0) below same))
+    let on-slot = keep-e (λ y. not (eqb y noNumber)) (x .0) words (x .1) in
+    rw (same-place t a (x .0) below same) (h (x .0) (on-slot .0) (same-below t a (x .0) below same))
   where
     T-true : (b : Bool) → T b → b ≡ true
     T-true true u = refl
     T-true false u = absurd u
 
+marks-driven : (t area : List ℕ) (w r : ℕ) (marks : List ℕ) → ((j : ℕ) → j < r → HasMarks t (slot w j area) marks)
+    → (a : ℕ) → a < records t → (p : List ℕ) → List·Memᴰ p (earlierIn w r area) → driven (roadsOf t) p a ≡ true → marked marks (placeAt t a) ≡ true
+unfolding earlierIn
+marks-driven t area w r marks h a below p m e =
+    let j = Memᴰ·of-map (λ j. routeIn (slot w j area)) (upFrom 0 r) m in
+    slot-driven t (slot w (j .0) area) marks (h (j .0) (omega (arith, upFrom-e 0 r (j .0) (j .1)))) a below (rw (j .2) e)
+
 pub filter : (t area : List ℕ) (w r : ℕ) (marks : List ℕ) → length marks ≡ markWords → ((j : ℕ) → j < r → HasMarks t (slot w j area) marks) → Filter t (earlierIn w r area) marks
 filter t area w r marks long h = record { long = long; marks-all = marks-driven t area w r marks h }
+
+-- the bits of one slot
+pub filter-slot : (t words marks : List ℕ) → length marks ≡ markWords → Filter t (routeIn words ∷ []) (withMarks t words marks)
+filter-slot t words marks long =
+    record {
+      long = marks-long t words marks ∙ long;
+      marks-all = λ a below p m e. ⊎-elim (λ z. slot-driven t words (withMarks t words marks) (has-new t words marks long) a below (rw (← z) e)) (λ n. absurd (List·Memᴰ·not-nil n)) (List·Memᴰ·cases-cons m);
+    }
 
 -- where the bit is not set, no earlier answer drives the arc's road
 pub unmarked : {t : List ℕ} {earlier : List (List ℕ)} {marks : List ℕ} → Filter t earlier marks → (a : ℕ) → a < records t → marked marks (placeAt t a) ≡ false

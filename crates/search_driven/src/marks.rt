@@ -67,7 +67,7 @@ fn mark(table: &[u8], marks: &mut [u64], word: u32)
 }
 
 // The bits of all arcs on a slot.
-fn mark_slot(table: &[u8], marks: &mut [u64], slot: &[u32])
+pub fn mark_slot(table: &[u8], marks: &mut [u64], slot: &[u32])
     requires { ⌜ (records (now table) ≤ mostArcs) × (length (now marks) ≡ markWords) ⌝ }
     ensures { λ _. ⌜ now (marks .exit) ≡ withMarks (now (table .entry)) (now (slot .entry))
         (now (marks .entry)) ⌝ }

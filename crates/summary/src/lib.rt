@@ -38,6 +38,25 @@ pub fn at(t: Sums, i: usize) -> Summary
     }
 }
 
+// The summaries with that of round i, from 0.
+pub fn with(t: Sums, i: usize, length: u64, arcs: u16, labels: u16) -> Sums
+    requires { ⌜ i < mostRoutes ⌝ }
+    ensures { λ r. ⌜ r
+        ≡ setAt t i (record { length = length; arcs = arcs; labels = labels }) ⌝ }
+{
+    let mut lengths = t.length;
+    let mut many = t.arcs;
+    let mut counts = t.labels;
+    lengths[i] = length;
+    many[i] = arcs;
+    counts[i] = labels;
+    Sums {
+        length: lengths,
+        arcs: many,
+        labels: counts,
+    }
+}
+
 // The first n records are those of t; the others stay.
 pub fn write(s: &mut [Summary], t: Sums, n: usize)
     requires { ⌜ (n ≤ mostRoutes) × (n ≤ length (now s)) ⌝ }

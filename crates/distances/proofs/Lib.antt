@@ -1,0 +1,9 @@
+pub mod Walks
+pub mod Dijkstra
+pub mod Trace
+pub mod Turned
+pub mod First
+pub mod Greedy
+pub mod Lex
+pub mod Firsts
+pub mod Parts

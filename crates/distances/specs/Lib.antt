@@ -1,0 +1,5 @@
+pub mod Distance
+pub mod Turned
+pub mod Search
+pub mod Greedy
+pub mod Deep

@@ -1,0 +1,5 @@
+pub mod OutLaws
+pub mod PickLaws
+pub mod CountLaws
+pub mod EnterLaws
+pub mod WalkLaws

@@ -1,0 +1,4 @@
+pub mod Firsts
+pub mod Measured
+pub mod Picking
+pub mod Walking

@@ -1,0 +1,4 @@
+pub mod WinnerLaws
+pub mod ClimbLaws
+pub mod LowerLaws
+pub mod KeyLaws

@@ -1,0 +1,5 @@
+pub mod StandLaws
+pub mod LookingLaws
+pub mod ForwardLaws
+pub mod ChoiceLaws
+pub mod BackwardLaws

@@ -1,0 +1,5 @@
+pub mod Stand
+pub mod Looking
+pub mod Steps
+pub mod Choice
+pub mod Turn

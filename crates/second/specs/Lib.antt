@@ -1,0 +1,3 @@
+pub mod Second
+pub mod Lookup
+pub mod Find

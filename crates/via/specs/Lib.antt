@@ -1,0 +1,2 @@
+pub mod Via
+pub mod Joined

@@ -1,0 +1,4 @@
+pub mod BesideLaws
+pub mod WalkLaws
+pub mod DropLaws
+pub mod LedLaws

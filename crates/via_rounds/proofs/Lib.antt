@@ -1,0 +1,7 @@
+pub mod NodesLaws
+pub mod KeptLaws
+pub mod SlotLaws
+pub mod BesideLaws
+pub mod CandidatesLaws
+pub mod TurnLaws
+pub mod LeftLaws
