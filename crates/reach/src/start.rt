@@ -102,7 +102,8 @@ fn coming_low(table: &[u8], second: &[u8], nodes: u32, v: u32, g: usize) -> usiz
 
 // The record that lies `REACH` after g, where it ends at v or above, or the end.
 fn coming_high(second: &[u8], v: u32, g: usize) -> usize
-    ensures { λ r. ⌜ (comingStart (now (second .entry)) v ≤ r) × (r ≤ records (now (second .entry))) ⌝ }
+    ensures { λ r. ⌜ (comingStart (now (second .entry)) v ≤ r)
+        × (r ≤ records (now (second .entry))) ⌝ }
 {
     let end = second.len() / table::arc::RECORD;
     if end <= REACH {

@@ -1,8 +1,7 @@
 -- The candidates of all nodes, in the working room.
-use mathlib.Core.Path.{_≡_}
 use mathlib.Core.Bool.{Bool, _&&_, cond}
 use mathlib.Core.List.{List, [], _∷_, _++_}
-use Prim.Native.Nat.{ℕ, zero, suc, _+_, _*_, _<_}
+use Prim.Native.Nat.{ℕ, zero, suc, _+_, _*_}
 use lib.Dec.{ltb, eqb}
 use Rattle.net.specs.Net.{Arc, Net, arc}
 use Rattle.distances.specs.Search.{Found}
