@@ -10,13 +10,14 @@ ghost use mathlib.Core.Logic.{_≢_};
 ghost use Prim.Native.Nat.{_+_, _*_, _≤_, _<_};
 ghost use lib.ListN.{length};
 ghost use Rattle.net.specs.Limits.{mostLabels};
-ghost use Rattle.table.specs.Table.{arcsOf};
+ghost use Rattle.table.specs.Table.{records, arcsOf};
 ghost use Rattle.labels.specs.Field.{labelBytes, mostEarlier, putRow};
-ghost use Rattle.search_ask.specs.Ask.{Searching, Among, width, queryFor, lastIn};
+ghost use Rattle.search_ask.specs.Ask.{Searching, Among, width, netFor, queryFor, lastIn};
 ghost use Rattle.search_ask.specs.Earlier.{earlierOf};
 ghost use Rattle.search_driven.specs.Marks.{Filter};
 ghost use Rattle.search_lists.specs.Listed.{Listed};
 ghost use Rattle.search_lists.specs.Run.{Runs};
+ghost use Rattle.search_batch.specs.Batch.{Ahead};
 ghost use Rattle.search_cursor.specs.Own.{Judging};
 ghost use Rattle.search_cursor.specs.Queue.{Queued};
 ghost use Rattle.round_turn.specs.Stage.{Ready, Going, rowFor, Entering, Entered};
@@ -68,6 +69,7 @@ fn enter(
     lens: &[u64],
     marks: &[u64],
     labels: &mut [u8],
+    ahead: &mut [u64],
     n: usize,
     c: Candidate,
     own: &[u64],
@@ -76,7 +78,8 @@ fn enter(
     requires { ⌜ (Judging ask (now table) (now area) (now lens) (now marks) (now labels) n)
         × (Among (now table) n c)
         × (Entering (queryFor ask (now table) (now closed) (now labels))
-        (earlierOf ask (now area) (now lens)) (now labels) n c (now own) root) ⌝ }
+        (earlierOf ask (now area) (now lens)) (now labels) n c (now own) root)
+        × (Ahead (netFor ask (now table) (now closed)) (records (now table)) (now ahead)) ⌝ }
     ensures { λ y. ⌜ (Entered (queryFor ask (now (table .entry)) (now (closed .entry))
         (now (labels .entry)))
         (earlierOf ask (now (area .entry)) (now (lens .entry)))
@@ -84,16 +87,29 @@ fn enter(
         × (ButSlot (width ask) (length (now (lens .entry))) (now (area .entry)) (now (area .exit)))
         × (Listed ask (length (now (lens .entry))) (now (area .exit)) (now (labels .exit))
         (n + 1))
-        × (Runs (now (table .entry)) (now (labels .exit)) (n + 1)) ⌝ }
+        × (Runs (now (table .entry)) (now (labels .exit)) (n + 1))
+        × (Ahead (netFor ask (now (table .entry)) (now (closed .entry)))
+        (records (now (table .entry))) (now (ahead .exit))) ⌝ }
 {
     take_up(table, ask, labels, n, c, own);
     search_lists::start(table, ask, lens.len(), area, labels, n);
     search_lists::enlist(ask, lens.len(), area, labels, n);
-    search_cursor::settle::enter(table, closed, ask, area, lens, marks, labels, n, root)
+    search_cursor::settle::enter(
+        table,
+        closed,
+        ask,
+        area,
+        lens,
+        marks,
+        labels,
+        ahead,
+        n,
+        root,
+    )
 }
 
 // One turn: the root's candidate is tested, and whatever comes of it the root's cursor moves on.
-// `marks` is the filter over the earlier answers.
+// `marks` is the filter over the earlier answers, `ahead` the batch of a node's next arcs.
 fn turn(
     table: &[u8],
     closed: &[u8],
@@ -102,6 +118,7 @@ fn turn(
     lens: &[u64],
     marks: &[u64],
     labels: &mut [u8],
+    ahead: &mut [u64],
     x: State,
 ) -> State
     requires { ⌜ (Ready ask (now table) (now area) (now lens) (now labels)) × (x .stage ≡ 0)
@@ -112,13 +129,16 @@ fn turn(
         (x .n) (x .root))
         × (Filter (now table) (earlierOf ask (now area) (now lens)) (now marks))
         × (Listed ask (length (now lens)) (now area) (now labels) (x .n))
-        × (Runs (now table) (now labels) (x .n)) ⌝ }
+        × (Runs (now table) (now labels) (x .n))
+        × (Ahead (netFor ask (now table) (now closed)) (records (now table)) (now ahead)) ⌝ }
     ensures { λ y. ⌜ (Turned (queryFor ask (now (table .entry)) (now (closed .entry))
         (now (labels .entry)))
         (earlierOf ask (now (area .entry)) (now (lens .entry)))
         (now (labels .entry)) x (now (labels .exit)) y)
         × (Listing ask (now (table .entry)) (length (now (lens .entry))) (now (area .entry))
-        (now (area .exit)) (now (labels .exit)) y) ⌝ }
+        (now (area .exit)) (now (labels .exit)) y)
+        × (Ahead (netFor ask (now (table .entry)) (now (closed .entry)))
+        (records (now (table .entry))) (now (ahead .exit))) ⌝ }
 {
     let n = x.n;
     let last = x.last;
@@ -148,7 +168,17 @@ fn turn(
         label: root,
         from: arc,
     };
-    let k = search_cursor::settle::settle(table, closed, ask, area, lens, marks, labels, place);
+    let k = search_cursor::settle::settle(
+        table,
+        closed,
+        ask,
+        area,
+        lens,
+        marks,
+        labels,
+        ahead,
+        place,
+    );
     if !pass {
         return State {
             n: n,
@@ -183,6 +213,7 @@ fn turn(
         lens,
         marks,
         labels,
+        ahead,
         n,
         c,
         &own[0..r],
@@ -205,16 +236,20 @@ fn begin(
     lens: &[u64],
     marks: &[u64],
     labels: &mut [u8],
+    ahead: &mut [u64],
 ) -> State
     requires { ⌜ (Ready ask (now table) (now area) (now lens) (now labels))
         × (Filter (now table) (earlierOf ask (now area) (now lens)) (now marks))
-        × (Blank (width ask) (length (now lens)) (now area)) ⌝ }
+        × (Blank (width ask) (length (now lens)) (now area))
+        × (Ahead (netFor ask (now table) (now closed)) (records (now table)) (now ahead)) ⌝ }
     ensures { λ y. ⌜ (Searched (queryFor ask (now (table .entry)) (now (closed .entry))
         (now (labels .entry)))
         (earlierOf ask (now (area .entry)) (now (lens .entry)))
         (now (labels .entry)) (now (labels .exit)) y)
         × (Listing ask (now (table .entry)) (length (now (lens .entry))) (now (area .entry))
-        (now (area .entry)) (now (labels .exit)) y) ⌝ }
+        (now (area .entry)) (now (labels .exit)) y)
+        × (Ahead (netFor ask (now (table .entry)) (now (closed .entry)))
+        (records (now (table .entry))) (now (ahead .exit))) ⌝ }
 {
     let none = Candidate {
         label: 0,
@@ -235,7 +270,7 @@ fn begin(
     let first = table::run::run_start(table, ask.nodes, s);
     search_lists::run::put_run(labels, 0, first as u32);
     search_lists::begin(ask, lens.len(), area, labels);
-    search_cursor::settle::begin(table, closed, ask, area, lens, marks, labels);
+    search_cursor::settle::begin(table, closed, ask, area, lens, marks, labels, ahead);
     State {
         n: 1,
         last: none,
@@ -264,9 +299,20 @@ fn turns(
 {
     let mut marks = [0u64; search_driven::marks::WORDS];
     search_driven::marks::mark_earlier(table, ask, area, lens.len(), &mut marks);
-    let mut x = begin(table, closed, ask, area, lens, &marks, labels);
+    let mut ahead = [0u64; search_batch::WORDS];
+    let mut x = begin(table, closed, ask, area, lens, &marks, labels, &mut ahead);
     while x.stage == GOING {
-        x = turn(table, closed, ask, area, lens, &marks, labels, x);
+        x = turn(
+            table,
+            closed,
+            ask,
+            area,
+            lens,
+            &marks,
+            labels,
+            &mut ahead,
+            x,
+        );
     }
     x
 }

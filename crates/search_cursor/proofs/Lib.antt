@@ -1,3 +1,4 @@
 pub mod OwnLaws
+pub mod RankLaws
 pub mod QueueLaws
 pub mod EnteredLaws

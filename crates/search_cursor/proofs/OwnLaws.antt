@@ -1,7 +1,7 @@
 -- A cursor's tests, from bytes to the theory: a chain's own candidates come in the order of their last arcs, the arcs that leave its end are those of its node's
 -- run that are open, and one look at an arc makes the cursor right one arc further.
 use mathlib.Core.Path.{_≡_, refl, sym, subst, ap, _∙_}
-use mathlib.Core.Logic.{_≢_, ⊎-elim}
+use mathlib.Core.Logic.{_≢_}
 use mathlib.Core.Bool.{Bool, true, false, _&&_}
 use mathlib.Core.List.{List, [], _∷_, _++_}
 use mathlib.Core.Option.{Option, none, some}
@@ -13,7 +13,6 @@ use lib.ListN.{length}
 use borrow.Author.Tests.{lt-ltb, le-ltb, eq-eqb, ne-eqb}
 use Rattle.lists.specs.Tests.{lex}
 use Rattle.lists.proofs.TestLaws.{and-i, and-l, and-r}
-use Rattle.lists.proofs.Cases.{order}
 use Rattle.net.specs.Net.{Arc, arc}
 use Rattle.net.specs.Route.{endOf, leaves, precedes, lengthOf}
 use Rattle.net.specs.Round.{Query}
@@ -26,10 +25,11 @@ use Rattle.table.specs.Fault.{tableFault, good}
 use Rattle.table.specs.Run.{runStart}
 use Rattle.table.proofs.FaultLaws.{good-size}
 use Rattle.table.proofs.NetLaws.{arc-is, arcs-length}
-use Rattle.table.proofs.RunLaws.{run-is, run-has, leaves-run}
+use Rattle.table.proofs.RunLaws.{run-has, leaves-run}
 use Rattle.labels.specs.Field.{noNumber}
 use Rattle.search_ask.specs.declared.Ask.{Ask}
 use Rattle.search_ask.specs.Ask.{netFor, queryFor}
+use Rattle.search_batch.proofs.GatherLaws.{open-run}
 use Rattle.search_ahead.specs.Cursor.{Cursor}
 use Rattle.search_ahead.proofs.AdvanceLaws.{own-precedes, cursor-start, cursor-skip, cursor-later, cursor-new}
 use Rattle.search_cursor.specs.Own.{arcIn, ownLast, arcFirst, afterArc, beforeArc, wantedArc}
@@ -112,11 +112,11 @@ module _ (arcs : List Arc) where
 
   -- the chain's own candidates
   module _ (p : List ℕ) where
-    own-first : (x y : ℕ) → precedes arcs (p ++ (x ∷ [])) (p ++ (y ∷ [])) ≡ arcFirst arcs x y
+    pub own-first : (x y : ℕ) → precedes arcs (p ++ (x ∷ [])) (p ++ (y ∷ [])) ≡ arcFirst arcs x y
     unfolding arcFirst
     own-first x y = own-precedes arcs p x y
 
-    own-after : (from a : ℕ) → precedes arcs (ownLast p from) (p ++ (a ∷ [])) ≡ afterArc arcs from a
+    pub own-after : (from a : ℕ) → precedes arcs (ownLast p from) (p ++ (a ∷ [])) ≡ afterArc arcs from a
     own-after from a = go (ℕ-discrete from noNumber)
       where
         truth : (x : Bool) → T x → x ≡ true
@@ -212,11 +212,7 @@ leaves-open ask t closed v a o h =
 
 module _ (ask : Ask) (t closed b : List ℕ) (earlier taken : List (List ℕ)) (last p : List ℕ) (ok : tableFault (ask .nodes) t ≡ good) (v : ℕ) (ends : v ≡ endOf (arcsOf t) (ask .s) p) where
   in-run : (x : ℕ) → T (leaves (netFor ask t closed) (endOf (arcsOf t) (ask .s) p) x) → (runStart t v ≤ x) × (x < runStart t (v + 1))
-  in-run x h =
-      let y = isOpen closed x in
-      let z = leaves (netOf (ask .nodes) t []) v x in
-      let k : T (y && z) = subst T (open-leaves (ask .nodes) t closed v x) (rw ends h) in
-      leaves-run (ask .nodes) t ok v x .0 (and-r y z k)
+  in-run x h = open-run (ask .nodes) t closed ok v x (rw ends h)
 
   pub walk-start : (x : ℕ) → x ≡ runStart t v → Cursor (queryFor ask t closed b) earlier (lengthOf (arcsOf t)) taken last p x (arcIn noNumber)
   walk-start x e =
@@ -228,12 +224,9 @@ module _ (ask : Ask) (t closed b : List ℕ) (earlier taken : List (List ℕ)) (
   walk-end a hi o h k =
       cursor-skip (queryFor ask t closed b) earlier (lengthOf (arcsOf t)) taken last p a hi o h (λ y l u w. absurd (omega (arith, in-run y (w .leaves-end) .1)))
 
-  -- an arc that starts at v is one of its run, and from the run's start on the first that does not is past its end
+  -- an arc that starts at v is one of its run
   pub run-leaves : (a : ℕ) → a < records t → fromAt t a ≡ v → T (leaves (netFor ask t []) (endOf (arcsOf t) (ask .s) p) a)
   run-leaves a h e = rw (← ends) (leaves-run (ask .nodes) t ok v a .1 (run-has (ask .nodes) t ok v a h e))
-
-  pub run-over : (a : ℕ) → runStart t v ≤ a → fromAt t a ≢ v → runStart t (v + 1) ≤ a
-  run-over a h ne = ⊎-elim (λ z. z) (λ z. absurd (ne (run-is (ask .nodes) t ok v a h z))) (order (runStart t (v + 1)) a)
 
 -- a cursor's arc is one of the table's
 pub cursor-below : (ask : Ask) (t closed b : List ℕ) (earlier taken : List (List ℕ)) (f : List ℕ → ℕ) (last p : List ℕ) (hi x : ℕ) → x ≢ noNumber

@@ -18,6 +18,7 @@ use Rattle.search_ahead.specs.Cursor.{Cursor}
 use Rattle.search_ask.specs.declared.Ask.{Ask}
 use Rattle.search_ask.specs.Ask.{Searching, netFor, queryFor, width}
 use Rattle.search_ask.specs.Earlier.{Earlier, earlierOf}
+use Rattle.search_batch.specs.Batch.{rankOf}
 use Rattle.search_driven.specs.Marks.{Filter}
 use Rattle.search_lists.specs.Link.{linkAt}
 use Rattle.search_lists.specs.Listed.{Listed}
@@ -66,6 +67,11 @@ beforeArc arcs a best = cond (eqb best noNumber) true (arcFirst arcs a best)
 unfoldable pub wantedArc : List Arc → ℕ → ℕ → ℕ → Bool
 unfolding afterArc beforeArc
 wantedArc arcs from best a = afterArc arcs from a && beforeArc arcs a best
+
+-- The rank of arc `from` in a batch; that of none is below all.
+unfoldable pub rankFrom : List Arc → ℕ → ℕ
+unfolding rankOf
+rankFrom arcs from = cond (eqb from noNumber) 0 (rankOf arcs from)
 
 -- Of the arcs below hi, the label's cursor stands at arc a, or at none.
 abbrev pub AtCursor : Ask → List ℕ → List ℕ → List ℕ → List ℕ → List ℕ → Place → ℕ → ℕ → Type 0

@@ -42,17 +42,17 @@ s-fits s = omega (arith, s .pre .0 .accepted .s-below, nodes-most (s .pre .0 .ac
 
 returns : tie.Need-returns
 returns c =
-    let s = c .before .before .before .before .before .before .before in
-    (begun-refused (query s) (earlier s) (accepted-valid (s .pre .0 .accepted) (s .args .closed .now) (s .args .labels .now)) (few s) (s .args .labels .now) (omega arith), record { around = but-same _ _ _; listed = λ e. absurd (omega arith); runs = λ e. absurd (omega arith) })
+    let s = c .before .before .before .before .before .before .before .before in
+    (begun-refused (query s) (earlier s) (accepted-valid (s .pre .0 .accepted) (s .args .closed .now) (s .args .labels .now)) (few s) (s .args .labels .now) (omega arith), record { around = but-same _ _ _; listed = λ e. absurd (omega arith); runs = λ e. absurd (omega arith) }, s .pre .3)
 
 put-head-requires : tie.Need-put-head-requires
 put-head-requires c κs =
-    let s = c .before .before .before .before .before .before .before .before in
+    let s = c .before .before .before .before .before .before .before .before .before in
     let none = standing-none (arcsOf (s .args .table .now)) (s .args .ask .s) (s .args .labels .now) in
     (omega arith, none .down, none .jumping, λ e. absurd (e refl), omega arith)
 
 abbrev start : tie.After-put-overlaps → tie.Start
-start o = o .before .before .before .before .before .before .before .before .before .before .before .before .before .before .before
+start o = o .before .before .before .before .before .before .before .before .before .before .before .before .before .before .before .before
 
 -- there is room for it
 roomy : (o : tie.After-put-overlaps) → labelBytes ≤ length (start o .args .labels .now)
@@ -94,16 +94,16 @@ ran g = g .before .before .before .before
 
 begin-requires-2 : tie.Need-begin-requires-2
 begin-requires-2 c κs =
-    let g = c .before .before .before in
+    let g = c .before .before .before .before in
     let p = ran g in
     let o = put p in
     let s = start o in
-    first-judging (s .args .ask) (s .args .table .now) (s .args .closed .now) (s .args .area .now) (s .args .lens .now) (s .args .marks .now) (s .args .labels .now) (s .pre .0 .accepted) (s .pre .0 .earlier) (s .pre .1) (few s) (roomy o) _ (opened o) _ (run-is p) _ (g .begin .ensures .0) (g .begin .ensures .1)
+    (first-judging (s .args .ask) (s .args .table .now) (s .args .closed .now) (s .args .area .now) (s .args .lens .now) (s .args .marks .now) (s .args .labels .now) (s .pre .0 .accepted) (s .pre .0 .earlier) (s .pre .1) (few s) (roomy o) _ (opened o) _ (run-is p) _ (g .begin .ensures .0) (g .begin .ensures .1), s .pre .3)
 
 returns-2 : tie.Need-returns-2
 returns-2 c =
-    let k = c .before .before in
-    let g = k .before .before .before .before in
+    let k = c .before .before .before .before in
+    let g = k .before .before .before .before .before in
     let p = ran g in
     let o = put p in
     let s = start o in
@@ -118,6 +118,7 @@ returns-2 c =
         listed = λ e. listed-only (λ z. omega arith) (s .pre .0 .few) (g .begin .ensures .1) (k .begin2 .ensures .0) (k .begin2 .ensures .1);
         runs = λ e. runs-only (s .args .table .now) _ 1 (j .runs) (k .begin2 .ensures .0) (k .begin2 .ensures .1);
       },
+      k .begin2 .ensures .3,
     )
 
 pub begin-spec : {M : Type 1} → statement M
@@ -125,7 +126,7 @@ begin-spec =
     tie.close
     (tie.spec
     returns
-    (λ c. let s = c .before .before .before .before .before .before .before .before in omega (arith, s-fits s))
+    (λ c. let s = c .before .before .before .before .before .before .before .before .before in omega (arith, s-fits s))
     put-head-requires
     (λ c. search needs)
     (λ c. search needs)
@@ -136,5 +137,6 @@ begin-spec =
     (λ c κs. let o = c .before .before .before .before in omega (arith, roomy o, ap length (opened o), length-putRow (start o .args .labels .now) 0 (emptyRow (netFor (start o .args .ask) (start o .args .table .now) (start o .args .closed .now)) (start o .args .ask .s) (earlier (start o)))))
     begin-requires
     begin-requires-2
+    (λ c. search needs)
     (λ c. search needs)
     returns-2)

@@ -6,11 +6,11 @@ use Rattle.round_turn.proofs.enter.Statement.{statement}
 use Rattle.round_turn.proofs.enter.Tie as tie
 
 abbrev start : tie.After-take-up → tie.Start
-start p = p .before .before .before .before .before .before .before .before .before
+start p = p .before .before .before .before .before .before .before .before .before .before
 
 take-up-requires : tie.Need-take-up-requires
 take-up-requires c κs =
-    let s = c .before .before .before .before .before .before .before .before in (
+    let s = c .before .before .before .before .before .before .before .before .before in (
       s .pre .0 .searching,
       s .pre .1,
       s .pre .2 .few,
@@ -52,25 +52,27 @@ started x = x .before .before .before .before .before
 
 enter-requires : tie.Need-enter-requires
 enter-requires c κs =
-    let x = c .before .before .before .before .before .before in
+    let x = c .before .before .before .before .before .before .before in
     let u = started x in
     let p = put u in
     let s = start p in (
       listed-judging (s .args .ask) (s .args .table .now) (s .args .closed .now) (s .args .area .now) (s .args .lens .now) (s .args .marks .now) (s .args .labels .now) (s .args .n) (s .args .c) (s .args .own .now) (s .args .root) (s .pre .0) (s .pre .1) (s .pre .2) _ (p .take-up .ensures) _ (u .start .ensures) _ _ (x .enlist .ensures .0) (x .enlist .ensures .1) (x .enlist .ensures .2),
       listed-queued (s .args .ask) (s .args .table .now) (s .args .closed .now) (s .args .area .now) (s .args .lens .now) (s .args .marks .now) (s .args .labels .now) (s .args .n) (s .args .c) (s .args .own .now) (s .args .root) (s .pre .0) (s .pre .1) (s .pre .2) _ (p .take-up .ensures) _ (u .start .ensures) _ _ (x .enlist .ensures .0) (x .enlist .ensures .1),
+      s .pre .3,
     )
 
 returns : tie.Need-returns
 returns c =
-    let v = c .before .before in
-    let x = v .before .before .before .before .before .before .before in
+    let v = c .before .before .before .before in
+    let x = v .before .before .before .before .before .before .before .before in
     let u = started x in
     let p = put u in
     let s = start p in
-    entered (s .args .ask) (s .args .table .now) (s .args .closed .now) (s .args .area .now) (s .args .lens .now) (s .args .marks .now) (s .args .labels .now) (s .args .n) (s .args .c) (s .args .own .now) (s .args .root) (s .pre .0) (s .pre .1) (s .pre .2) _ (p .take-up .ensures) _ (u .start .ensures) _ _ (x .enlist .ensures .0) (x .enlist .ensures .1) (x .enlist .ensures .2)
-    _ (v .enter .result) (v .enter .ensures .0) (v .enter .ensures .1) (v .enter .ensures .2)
+    let e = entered (s .args .ask) (s .args .table .now) (s .args .closed .now) (s .args .area .now) (s .args .lens .now) (s .args .marks .now) (s .args .labels .now) (s .args .n) (s .args .c) (s .args .own .now) (s .args .root) (s .pre .0) (s .pre .1) (s .pre .2) _ (p .take-up .ensures) _ (u .start .ensures) _ _ (x .enlist .ensures .0) (x .enlist .ensures .1) (x .enlist .ensures .2)
+    _ (v .enter .result) (v .enter .ensures .0) (v .enter .ensures .1) (v .enter .ensures .2) in
+    (e .0, e .1, e .2, e .3, v .enter .ensures .3)
 
 pub enter-spec : {M : Type 1} → statement M
 enter-spec =
     tie.close
-    (tie.spec take-up-requires start-requires enlist-requires enter-requires (λ c. search needs) (λ c. search needs) returns)
+    (tie.spec take-up-requires start-requires enlist-requires enter-requires (λ c. search needs) (λ c. search needs) (λ c. search needs) returns)

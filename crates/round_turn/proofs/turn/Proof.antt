@@ -43,7 +43,7 @@ use Rattle.round_turn.proofs.turn.Statement.{statement}
 use Rattle.round_turn.proofs.turn.Tie as tie
 
 abbrev start : tie.After-cursor → tie.Start
-start a = a .before .before .before .before .before .before .before .before .before
+start a = a .before .before .before .before .before .before .before .before .before .before
 
 abbrev bytes : tie.Start → List ℕ
 bytes s = s .args .labels .now
@@ -149,7 +149,7 @@ end-of p =
 -- ---- the root's cursor has moved on
 
 abbrev tested : tie.After-settle → tie.After-passes
-tested u = u .before .before .before
+tested u = u .before .before .before .before
 
 abbrev found : tie.After-settle → tie.After-of-candidate
 found u = tried (tested u)
@@ -181,7 +181,7 @@ own-moved u = let s = from (real (found u)) in own-open (found u) ∙ ap (overla
 -- ---- where it passes both tests
 
 abbrev settled : tie.Else2 → tie.After-settle
-settled f = f .before .before .before
+settled f = f .before .before .before .before .before
 
 passed : (f : tie.Else2) → let e = real (found (settled f)) in let s = from e in
     passes (query s) (earlier s) (chainsIn (bytes s) (s .args .x .n)) (chainOf (bytes s) (candidate e)) ≡ true
@@ -242,7 +242,7 @@ entering g =
 returns : tie.Need-returns
 returns c =
     let s = start (c .before) in
-    (turned-none (query s) (earlier s) (valid s) (bytes s) (s .args .x) (s .pre .2) (s .pre .1) (lengths-most (s .pre .0 .accepted)) (s .pre .3) (sym (c .before .cursor .ensures) ∙ c .if1 .taken), record { around = but-same _ _ _; listed = λ e. absurd (omega arith); runs = λ e. absurd (omega arith) })
+    (turned-none (query s) (earlier s) (valid s) (bytes s) (s .args .x) (s .pre .2) (s .pre .1) (lengths-most (s .pre .0 .accepted)) (s .pre .3) (sym (c .before .cursor .ensures) ∙ c .if1 .taken), record { around = but-same _ _ _; listed = λ e. absurd (omega arith); runs = λ e. absurd (omega arith) }, s .pre .7)
 
 of-candidate-requires : tie.Need-of-candidate-requires
 of-candidate-requires c κs =
@@ -263,22 +263,24 @@ passes-requires c κs =
 
 settle-requires : tie.Need-settle-requires
 settle-requires c κs =
-    let e = real (tried (c .before .before)) in
+    let e = real (tried (c .before .before .before)) in
     let s = from e in (
       judging s,
       s .pre .3 .root .used,
       λ ne. among e .arc-below,
       subst (λ z. QueuedBut (query s) (earlier s) z (bytes s) (s .args .x .n) (s .args .x .root)) (sym (own-last e)) (open-root e),
+      s .pre .7,
     )
 
 returns-2 : tie.Need-returns-2
 returns-2 c =
-    let u = c .before .before .before in
+    let u = c .before .before .before .before .before in
     let e = real (found u) in
     let s = from e in (
       turned-dropped (query s) (earlier s) (valid s) (bytes s) (s .args .x) (s .pre .2) (s .pre .1) (lengths-most (s .pre .0 .accepted)) (s .pre .3) (candidate e .arc) (e .before .cursor .ensures) (e .if1 .left)
           (sym (verdict (tested u)) ∙ not-true _ (c .if2 .taken)) (moved u) (u .settle .result) (u .settle .ensures .0) (queued-moved u),
       record { around = but-same _ _ _; listed = λ z. judging-moved u .listed; runs = λ z. judging-moved u .runs },
+      u .settle .ensures .3,
     )
 
 returns-3 : tie.Need-returns-3
@@ -289,6 +291,7 @@ returns-3 c =
       turned-refused (query s) (earlier s) (valid s) (bytes s) (s .args .x) (s .pre .2) (s .pre .1) (lengths-most (s .pre .0 .accepted)) (s .pre .3) (candidate e .arc) (e .before .cursor .ensures) (e .if1 .left)
           (passed (c .before)) (c .if3 .taken) (moved u) (u .settle .ensures .0),
       record { around = but-same _ _ _; listed = λ z. absurd (omega arith); runs = λ z. absurd (omega arith) },
+      u .settle .ensures .3,
     )
 
 take-up-requires : tie.Need-take-up-requires
@@ -311,17 +314,18 @@ returns-4 c =
           (passed (g .before)) (roomy g) (moved u) (u .settle .ensures .0) (sym (end-of (tested u)) ∙ h .if4 .taken) _
           (t .take-up .ensures ∙ ap (λ os. putRow (moved u) (s .args .x .n) (rowFor (arcsOf (s .args .table .now)) (s .args .ask .s) (moved u) (candidate e) os)) (own-moved u)),
       record { around = but-same _ _ _; listed = λ z. absurd (omega arith); runs = λ z. absurd (omega arith) },
+      u .settle .ensures .3,
     )
 
 enter-requires : tie.Need-enter-requires
 enter-requires c κs =
-    let g = c .before .before .before .before .before in
-    (judging-moved (roomed g), among (real (found (roomed g))), entering g)
+    let g = c .before .before .before .before .before .before in
+    (judging-moved (roomed g), among (real (found (roomed g))), entering g, roomed g .settle .ensures .3)
 
 returns-5 : tie.Need-returns-5
 returns-5 c =
-    let t = c .before .before .before .before in
-    let h = t .before .before .before .before .before in
+    let t = c .before .before .before .before .before .before in
+    let h = t .before .before .before .before .before .before in
     let g = h .before in
     let u = roomed g in
     let e = real (found u) in
@@ -333,6 +337,7 @@ returns-5 c =
           (subst (λ z. Queued (query s) (earlier s) z new (s .args .x .n + 1) (t .enter .result)) (same-chain u)
           (subst (λ q. Queued q (earlier s) (chainOf (moved u) (candidate e)) new (s .args .x .n + 1) (t .enter .result)) (same-query u) (w .queued))),
       record { around = t .enter .ensures .1; listed = λ z. t .enter .ensures .2; runs = λ z. t .enter .ensures .3 },
+      t .enter .ensures .4,
     )
 
 pub turn-spec : {M : Type 1} → statement M
@@ -353,7 +358,9 @@ turn-spec =
     settle-requires
     (λ c. search needs)
     (λ c. search needs)
+    (λ c. search needs)
     returns-2
+    (λ c. search needs)
     (λ c. search needs)
     (λ c. search needs)
     returns-3
@@ -364,12 +371,14 @@ turn-spec =
     (λ c. omega (arith, roomy (c .before .before .before .before .before .before .before) .few))
     (λ c. search needs)
     (λ c. search needs)
+    (λ c. search needs)
     returns-4
     (λ c. search needs)
     (λ c. search needs)
-    (λ c. omega (arith, from (real (found (roomed (c .before .before .before .before)))) .pre .0 .few))
+    (λ c. omega (arith, from (real (found (roomed (c .before .before .before .before .before)))) .pre .0 .few))
     enter-requires
-    (λ c. omega (arith, roomy (c .before .before .before .before .before .before .before .before .before .before) .few))
+    (λ c. omega (arith, roomy (c .before .before .before .before .before .before .before .before .before .before .before .before .before) .few))
     (λ c. search needs)
-    (λ c. search needs)
+    (λ c. returns-5 c .0 .long)
+    (λ c. returns-5 c .2 .long ∙ sym (from (real (found (roomed (c .before .before .before .before .before .before .before .before .before .before .before .before .before)))) .pre .7 .long))
     returns-5)

@@ -1,126 +1,102 @@
--- The loop goes along the run of the label's end. The invariant: `arc` is in the run or just past it, and the best so far is right of the arcs below it. A record
--- that starts at another node, or none, is past the run.
-use mathlib.Core.Path.{_≡_, sym, ap, _∙_}
-use mathlib.Core.List.{List}
-use Prim.Native.Nat.{ℕ, _+_, _-_, _≤_}
+-- By the batch or by a pass over the run: either leaves the cursor right, and which it is does not matter.
 use native.Mathlib.Omega.{arith}
 use borrow.Author.Needs.{needs}
-use Rattle.table.specs.Table.{records, fromAt}
+use mathlib.Core.Path.{_≡_, sym, subst, ap, _∙_}
+use mathlib.Core.Logic.{_≢_}
+use Prim.Native.Nat.{_≤_, _<_}
+use lib.ListN.{length}
+use Rattle.net.specs.Limits.{mostArcs}
+use Rattle.table.specs.Table.{records, arcsOf}
 use Rattle.table.specs.Fault.{tableFault, good}
 use Rattle.table.specs.Run.{runStart}
-use Rattle.table.proofs.RunLaws.{run-le, run-mono, run-has}
+use Rattle.table.proofs.FaultLaws.{good-size}
+use Rattle.table.proofs.NetLaws.{arcs-length, table-sound}
+use Rattle.table.proofs.RunLaws.{run-le}
+use Rattle.labels.specs.Field.{noNumber}
 use Rattle.labels.specs.Chain.{chainAt, chainsIn}
-use Rattle.search_ask.specs.Ask.{endIn}
+use Rattle.search_ask.specs.Ask.{netFor, queryFor, endIn}
 use Rattle.search_ask.specs.Earlier.{earlierOf}
-use Rattle.search_cursor.specs.Own.{arcIn, ownLast, AtCursor}
-use Rattle.search_cursor.proofs.OwnLaws.{walk-start, walk-end, run-leaves, run-over}
+use Rattle.search_batch.specs.Batch.{Came}
+use Rattle.search_cursor.specs.Own.{rankFrom}
+use Rattle.search_cursor.proofs.RankLaws.{came-at}
 use Rattle.search_cursor.proofs.advance.advance.Statement.{statement}
 use Rattle.search_cursor.proofs.advance.advance.Tie as tie
 
-abbrev Inv-loop : tie.InvT-loop
-Inv-loop table closed ask area lens marks labels x label v count best₀ arc₀ best arc =
-    (runStart table v ≤ arc) × (arc ≤ runStart table (v + 1)) × AtCursor ask table closed area lens labels x arc best
+abbrev start : tie.After-end → tie.Start
+start c = c .before .before .before .before .before .before .before .before
 
-abbrev μ-loop : tie.MeasureT-loop
-μ-loop table closed ask area lens marks labels x label v count best₀ arc₀ best arc = count - arc
-
-abbrev start : tie.After-end Inv-loop μ-loop → tie.Start Inv-loop μ-loop
-start c = c .before .before .before .before .before .before .before
-
-ok : (s : tie.Start Inv-loop μ-loop) → tableFault (s .args .ask .nodes) (s .args .table .now) ≡ good
+ok : (s : tie.Start) → tableFault (s .args .ask .nodes) (s .args .table .now) ≡ good
 ok s = s .pre .0 .searching .accepted .no-fault
 
-abbrev chain : tie.Start Inv-loop μ-loop → List ℕ
-chain s = chainAt (s .args .labels .now) (s .args .x .label)
+size : (s : tie.Start) → records (s .args .table .now) ≤ mostArcs
+size s = good-size (s .args .ask .nodes) (s .args .table .now) (ok s) .3
 
-abbrev taken : tie.Start Inv-loop μ-loop → List (List ℕ)
-taken s = chainsIn (s .args .labels .now) (s .args .x .n)
+few : (s : tie.Start) → length (arcsOf (s .args .table .now)) ≤ mostArcs
+few s = omega (arith, size s, arcs-length (s .args .table .now))
 
-abbrev earlier : tie.Start Inv-loop μ-loop → List (List ℕ)
-earlier s = earlierOf (s .args .ask) (s .args .area .now) (s .args .lens .now)
+small : (s : tie.Start) → s .args .x .from ≢ noNumber → s .args .x .from < mostArcs
+small s ne = omega (arith, s .pre .2 ne, size s)
 
-abbrev last : tie.Start Inv-loop μ-loop → List ℕ
-last s = ownLast (chain s) (s .args .x .from)
-
--- v is the end of the label's chain
-v-is : (c : tie.After-end Inv-loop μ-loop) → c .end .result ≡ endIn (start c .args .ask) (start c .args .table .now) (start c .args .labels .now) (start c .args .x .label)
+-- v is the end of the label's chain, and its run is the label's
+v-is : (c : tie.After-end) → c .end .result ≡ endIn (start c .args .ask) (start c .args .table .now) (start c .args .labels .now) (start c .args .x .label)
 v-is c = c .end .ensures ∙ start c .pre .0 .searching .standing .ends (start c .args .x .label) (start c .pre .1)
 
-loop-holds : tie.Need-loop-holds Inv-loop μ-loop
-loop-holds c =
-    let v = c .before in
-    let s = start v in
-    let e = c .run .ensures ∙ s .pre .0 .runs (s .args .x .label) (s .pre .1) ∙ ap (runStart (s .args .table .now)) (sym (v .end .ensures)) in (
-      omega (arith, e),
-      omega (arith, e, run-mono (s .args .table .now) (v .end .result)),
-      walk-start (s .args .ask) (s .args .table .now) (s .args .closed .now) (s .args .labels .now) (earlier s) (taken s) (last s) (chain s) (ok s) (v .end .result) (v-is v) _ e,
-    )
+first-is : (c : tie.After-run) → c .run .result ≡ runStart (start (c .before) .args .table .now) (c .before .end .result)
+first-is c =
+    let s = start (c .before) in
+    c .run .ensures ∙ s .pre .0 .runs (s .args .x .label) (s .pre .1) ∙ ap (runStart (s .args .table .now)) (sym (c .before .end .ensures))
 
-abbrev ended : tie.At-loop Inv-loop μ-loop → tie.After-end Inv-loop μ-loop
-ended a = a .before .before
+by-batch-requires : tie.Need-by-batch-requires
+by-batch-requires c κs =
+    let r = c .before in
+    let s = start (r .before) in
+    (s .pre .2, size s, omega (arith, first-is r, run-le (s .args .table .now) (r .before .end .result)), s .pre .3 .long, omega (arith, s .pre .3 .at-most, s .pre .3 .count-most))
 
--- the record starts at another node
-returns : tie.Need-returns Inv-loop μ-loop
+rank-from-requires : tie.Need-rank-from-requires
+rank-from-requires c κs = let s = start (c .before .before .before .before) in (s .pre .2, size s)
+
+after-requires : tie.Need-after-requires
+after-requires c κs =
+    let r = c .before .before .before .before .before in
+    let s = start (r .before) in
+    (ok s, first-is r, s .pre .3)
+
+returns : tie.Need-returns
 returns c =
-    let f = c .before in
-    let a = f .before .before in
-    let v = ended a in
-    let s = start v in
-    walk-end (s .args .ask) (s .args .table .now) (s .args .closed .now) (s .args .labels .now) (earlier s) (taken s) (last s) (chain s) (ok s) (v .end .result) (v-is v) (a .loop .arc) (records (s .args .table .now))
-    (arcIn (a .loop .best)) (a .loop .inv .2)
-    (run-over (s .args .ask) (s .args .table .now) (s .args .closed .now) (s .args .labels .now) (earlier s) (taken s) (last s) (chain s) (ok s) (v .end .result) (v-is v) (a .loop .arc) (a .loop .inv .0)
-    (λ z. c .if1 .taken (f .from-of .ensures ∙ z)))
-
--- it starts at v
-starts : (e : tie.Else1 Inv-loop μ-loop) → let a = e .before .before .before in fromAt (start (ended a) .args .table .now) (a .loop .arc) ≡ ended a .end .result
-starts e = sym (e .before .from-of .ensures) ∙ e .if1 .left
-
-look-requires : tie.Need-look-requires Inv-loop μ-loop
-look-requires c κs =
-    let l = c .before .before in
-    let a = l .before in
-    let v = ended a in
-    let s = start v in (
-      s .pre .0,
-      s .pre .1,
-      s .pre .2,
-      run-leaves (s .args .ask) (s .args .table .now) (s .args .closed .now) (s .args .labels .now) (earlier s) (taken s) (last s) (chain s) (ok s) (v .end .result) (v-is v) (a .loop .arc) (l .loop-test .taken) (starts c),
-      a .loop .inv .2,
+    let d = c .before .before in
+    let k = d .before .before in
+    let r = k .before .before .before .before in
+    let e = r .before in
+    let s = start e in
+    let t = s .args .table .now in
+    let net = netFor (s .args .ask) t (s .args .closed .now) in
+    let y = d .after .result in
+    let w = d .after .last .1 .1 .1 .0 in
+    let came = subst (λ low. Came net (records t) (e .end .result) low y w) (k .rank-from .ensures) (d .after .ensures) in (
+      came-at (queryFor (s .args .ask) t (s .args .closed .now) (s .args .labels .now)) (few s) (table-sound (s .args .ask .nodes) t (ok s) (s .args .closed .now) .positive)
+          (earlierOf (s .args .ask) (s .args .area .now) (s .args .lens .now)) (chainsIn (s .args .labels .now) (s .args .x .n)) (chainAt (s .args .labels .now) (s .args .x .label)) (s .args .x .from) (small s) (records t) y w
+          (subst (λ v. Came net (records t) v (rankFrom (arcsOf t) (s .args .x .from)) y w) (v-is e) came),
+      d .after .ensures .ahead,
     )
 
-loop-again : tie.Need-loop-again Inv-loop μ-loop
-loop-again c =
-    let e = c .before in
-    let l = e .before .before in
-    let a = l .before in
-    let s = start (ended a) in (
-      omega (arith, a .loop .inv .0),
-      omega (arith, run-has (s .args .ask .nodes) (s .args .table .now) (ok s) (ended a .end .result) (a .loop .arc) (l .loop-test .taken) (starts e) .1),
-      c .look .ensures,
-    )
-
-returns-2 : tie.Need-returns-2 Inv-loop μ-loop
-returns-2 c =
-    let a = c .before in
-    let v = ended a in
-    let s = start v in
-    walk-end (s .args .ask) (s .args .table .now) (s .args .closed .now) (s .args .labels .now) (earlier s) (taken s) (last s) (chain s) (ok s) (v .end .result) (v-is v) (a .loop .arc) (records (s .args .table .now))
-    (arcIn (a .loop .best)) (a .loop .inv .2) (omega (arith, run-le (s .args .table .now) (v .end .result + 1)))
+pass-requires : tie.Need-pass-requires
+pass-requires c κs =
+    let r = c .before .before .before in
+    let s = start (r .before) in
+    (s .pre .0, s .pre .1, s .pre .2, v-is (r .before), first-is r)
 
 pub advance-spec : {M : Type 1} → statement M
 advance-spec =
     tie.close
     (tie.spec
-    Inv-loop
-    μ-loop
     (λ c κs. search needs)
     (λ c κs. search needs)
     (λ c. search needs)
-    loop-holds
-    (λ c κs. search needs)
+    by-batch-requires
+    rank-from-requires
+    after-requires
+    (λ c. search needs)
     returns
-    look-requires
+    pass-requires
     (λ c. search needs)
-    (λ c. search needs)
-    loop-again
-    returns-2)
+    (λ c. (c .pass .ensures, start (c .before .before .before .before .before) .pre .3)))

@@ -25,7 +25,7 @@ use Rattle.search_cursor.proofs.settle.enter.Statement.{statement}
 use Rattle.search_cursor.proofs.settle.enter.Tie as tie
 
 abbrev start : tie.After-advance → tie.Start
-start c = c .before .before .before .before .before .before .before .before
+start c = c .before .before .before .before .before .before .before .before .before .before
 
 abbrev query : tie.Start → Query
 query s = queryFor (s .args .ask) (s .args .table .now) (s .args .closed .now) (s .args .labels .now)
@@ -40,7 +40,7 @@ below : (c : tie.After-advance) → c .advance .result ≢ noNumber → c .advan
 below c ne =
     let s = start c in
     cursor-below (s .args .ask) (s .args .table .now) (s .args .closed .now) (s .args .labels .now) (earlier s) (chainsIn (s .args .labels .now) (s .args .n + 1)) (lengthOf (arcsOf (s .args .table .now))) (ownLast (chain s) noNumber)
-    (chain s) (records (s .args .table .now)) (c .advance .result) ne (c .advance .ensures)
+    (chain s) (records (s .args .table .now)) (c .advance .result) ne (c .advance .ensures .0)
 
 fits : (c : tie.After-advance) → c .advance .result < 2 ^ 32
 fits c = let s = start c in arc-fits (s .args .ask .nodes) (s .args .table .now) (c .advance .result) (s .pre .0 .searching .accepted .no-fault) (below c)
@@ -53,23 +53,23 @@ right c =
     let t = s .args .table .now in
     let taken = chainsIn (s .args .labels .now) (s .args .n + 1) in
     subst (λ z. Cursor (query s) (earlier s) (lengthOf (arcsOf t)) taken z (chain s) (length (arcsOf t)) (arcIn (c .advance .result))) (own-none (chain s) noNumber refl)
-    (subst (λ h. Cursor (query s) (earlier s) (lengthOf (arcsOf t)) taken (ownLast (chain s) noNumber) (chain s) h (arcIn (c .advance .result))) (sym (arcs-length t)) (c .advance .ensures))
+    (subst (λ h. Cursor (query s) (earlier s) (lengthOf (arcsOf t)) taken (ownLast (chain s) noNumber) (chain s) h (arcIn (c .advance .result))) (sym (arcs-length t)) (c .advance .ensures .0))
 
 others : (s : tie.Start) (i : ℕ) → i < s .args .n + 1 → i ≢ s .args .n → Kept (query s) (earlier s) (chainsIn (s .args .labels .now) (s .args .n + 1)) (chain s) (s .args .labels .now) i
 others s i h ne = s .pre .1 .kept i (⊎-elim (λ z. absurd (ne (omega arith))) (λ z. z) (order (s .args .n) i))
 
 advance-requires : tie.Need-advance-requires
 advance-requires c κs =
-    let s = c .before .before .before .before .before .before .before in
-    (s .pre .0, omega arith, λ ne. absurd (ne refl))
+    let s = c .before .before .before .before .before .before .before .before .before in
+    (s .pre .0, omega arith, λ ne. absurd (ne refl), s .pre .2)
 
 store-requires : tie.Need-store-requires
-store-requires c κs = let s = start (c .before) in (s .pre .0 .searching, omega arith, below (c .before))
+store-requires c κs = let a = c .before .before .before in let s = start a in (s .pre .0 .searching, omega arith, below a)
 
 enter-requires : tie.Need-enter-requires
 enter-requires c κs =
     let d = c .before .before .before in
-    let a = d .before .before in
+    let a = d .before .before .before .before in
     let s = start a in
     let st = s .pre .0 .searching .standing in
     let most = lengths-most (s .pre .0 .searching .accepted) in
@@ -84,7 +84,7 @@ returns : tie.Need-returns
 returns c =
     let u = c .before .before in
     let d = u .before .before .before .before in
-    let a = d .before .before in
+    let a = d .before .before .before .before in
     let s = start a in
     let st = s .pre .0 .searching .standing in
     let most = lengths-most (s .pre .0 .searching .accepted) in
@@ -93,16 +93,18 @@ returns c =
       settled-lists (query s) (s .args .labels .now) (s .args .n + 1) (s .args .n) (a .advance .result) st most low (fits a) _ (d .store .ensures) (earlier s) (chain s) _ (u .enter .ensures .0),
       settled (query s) (s .args .labels .now) (s .args .n + 1) (s .args .n) (a .advance .result) st most low (fits a) _ (d .store .ensures) (earlier s) (chain s) _ (u .enter .ensures .0)
           (others s) (right a) _ (u .enter .ensures .1) (u .enter .ensures .2),
+      a .advance .ensures .1,
     )
 
 pub enter-spec : {M : Type 1} → statement M
 enter-spec =
     tie.close
     (tie.spec
-    (λ c. let s = c .before .before .before .before .before .before in omega (arith, s .pre .0 .searching .standing .few))
+    (λ c. let s = c .before .before .before .before .before .before .before in omega (arith, s .pre .0 .searching .standing .few))
     advance-requires
-    (λ c. let s = start (c .before) in omega (arith, s .pre .0 .searching .standing .few))
+    (λ c. let s = start (c .before .before .before) in omega (arith, s .pre .0 .searching .standing .few))
     store-requires
     enter-requires
+    (λ c. search needs)
     (λ c. search needs)
     returns)

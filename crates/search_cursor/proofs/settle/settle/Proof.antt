@@ -22,7 +22,7 @@ use Rattle.search_cursor.proofs.settle.settle.Statement.{statement}
 use Rattle.search_cursor.proofs.settle.settle.Tie as tie
 
 abbrev start : tie.After-advance → tie.Start
-start c = c .before .before .before .before .before .before .before .before
+start c = c .before .before .before .before .before .before .before .before .before .before
 
 abbrev query : tie.Start → Query
 query s = queryFor (s .args .ask) (s .args .table .now) (s .args .closed .now) (s .args .labels .now)
@@ -40,7 +40,7 @@ below : (c : tie.After-advance) → c .advance .result ≢ noNumber → c .advan
 below c ne =
     let s = start c in
     cursor-below (s .args .ask) (s .args .table .now) (s .args .closed .now) (s .args .labels .now) (earlier s) (chainsIn (s .args .labels .now) (s .args .x .n)) (lengthOf (arcsOf (s .args .table .now))) (last s) (chain s)
-    (records (s .args .table .now)) (c .advance .result) ne (c .advance .ensures)
+    (records (s .args .table .now)) (c .advance .result) ne (c .advance .ensures .0)
 
 fits : (c : tie.After-advance) → c .advance .result < 2 ^ 32
 fits c = let s = start c in arc-fits (s .args .ask .nodes) (s .args .table .now) (c .advance .result) (s .pre .0 .searching .accepted .no-fault) (below c)
@@ -51,15 +51,15 @@ right : (c : tie.After-advance) → let s = start c in
 right c =
     let s = start c in
     subst (λ h. Cursor (query s) (earlier s) (lengthOf (arcsOf (s .args .table .now))) (chainsIn (s .args .labels .now) (s .args .x .n)) (last s) (chain s) h (arcIn (c .advance .result))) (sym (arcs-length (s .args .table .now)))
-    (c .advance .ensures)
+    (c .advance .ensures .0)
 
 store-requires : tie.Need-store-requires
-store-requires c κs = let s = start (c .before) in (s .pre .0 .searching, s .pre .1, below (c .before))
+store-requires c κs = let a = c .before .before .before in let s = start a in (s .pre .0 .searching, s .pre .1, below a)
 
 update-requires : tie.Need-update-requires
 update-requires c κs =
     let d = c .before .before .before in
-    let a = d .before .before in
+    let a = d .before .before .before .before in
     let s = start a in
     let st = s .pre .0 .searching .standing in
     let most = lengths-most (s .pre .0 .searching .accepted) in (
@@ -73,7 +73,7 @@ returns : tie.Need-returns
 returns c =
     let u = c .before .before in
     let d = u .before .before .before .before in
-    let a = d .before .before in
+    let a = d .before .before .before .before in
     let s = start a in
     let st = s .pre .0 .searching .standing in
     let most = lengths-most (s .pre .0 .searching .accepted) in (
@@ -81,8 +81,9 @@ returns c =
       settled-lists (query s) (s .args .labels .now) (s .args .x .n) (s .args .x .label) (a .advance .result) st most (s .pre .1) (fits a) _ (d .store .ensures) (earlier s) (last s) _ (u .update .ensures .0),
       settled (query s) (s .args .labels .now) (s .args .x .n) (s .args .x .label) (a .advance .result) st most (s .pre .1) (fits a) _ (d .store .ensures) (earlier s) (last s) _ (u .update .ensures .0)
           (s .pre .3 .kept) (right a) _ (u .update .ensures .1) (u .update .ensures .2),
+      a .advance .ensures .1,
     )
 
 pub settle-spec : {M : Type 1} → statement M
 settle-spec =
-    tie.close (tie.spec (λ c κs. search needs) store-requires update-requires (λ c. search needs) returns)
+    tie.close (tie.spec (λ c κs. search needs) store-requires update-requires (λ c. search needs) (λ c. search needs) returns)
