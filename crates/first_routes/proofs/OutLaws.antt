@@ -18,9 +18,10 @@ use Rattle.table.proofs.NetLaws.{arcs-length, arc-is}
 use Rattle.table.proofs.RunLaws.{run-le, run-is, run-has, next-ge, next-le, next-passes, next-skips}
 use Rattle.closures.specs.Closed.{nextOpen}
 use Rattle.closures.proofs.ClosedLaws.{next-open}
-use Rattle.working_room.specs.Field.{longAt}
+use Rattle.working_room.specs.Field.{longAt, wordAt}
 use Rattle.reach.specs.declared.Stand.{Stand}
 use Rattle.reach.specs.Stand.{distIn}
+use Rattle.run_notes.proofs.NotedLaws.{leaving-same}
 use Rattle.first_routes.specs.Measured.{Measured}
 
 module _ (nodes : ℕ) (t closed : List ℕ) (ok : tableFault nodes t ≡ good) (v a : ℕ) where
@@ -49,10 +50,11 @@ dist-at x n l v h = rw (lt-ltb v n h)
 pub dist-same : (x : Stand) (n : ℕ) (l m : List ℕ) → ((v : ℕ) → longAt (x .dist) m v ≡ longAt (x .dist) l v) → distIn x n m ≡ distIn x n l
 dist-same x n l m f = fun-ext (λ v. ap (λ d. cond (ltb v n) d (x .far)) (f v))
 
-pub measured-same : (x : Stand) (n : ℕ) (t l m : List ℕ) → length m ≡ length l → distIn x n m ≡ distIn x n l → Measured x n t l → Measured x n t m
-measured-same x n t l m long e h =
+pub measured-same : (x : Stand) (n : ℕ) (t l m : List ℕ) → length m ≡ length l → distIn x n m ≡ distIn x n l → ((v : ℕ) → wordAt 56 m v ≡ wordAt 56 l v) → Measured x n t l → Measured x n t m
+measured-same x n t l m long e f h =
     record {
       no-fault = h .no-fault;
       roomy = record { few = h .roomy .few; enough = omega (arith, h .roomy .enough) };
       most = subst (λ d. (v : ℕ) → d v ≤ x .far) (sym e) (h .most);
+      noted = leaving-same n t l m f (h .noted);
     }

@@ -320,7 +320,7 @@ pub ready-same : (nodes : ℕ) (t closed : List ℕ) (s : ℕ) (l m : List ℕ) 
 ready-same nodes t closed s l m w r =
     let e = forth-same nodes l m w in
     record {
-      measured = measured-same forth nodes t l m (w .long) e (r .measured);
+      measured = measured-same forth nodes t l m (w .long) e (λ v. w .field 4 v 56 refl refl) (r .measured);
       s-below = r .s-below;
       steady = subst (Steady (netOf nodes t closed) s) (sym e) (r .steady);
     }

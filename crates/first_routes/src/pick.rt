@@ -14,6 +14,7 @@ ghost use Rattle.distances.specs.Turned.{reversed};
 ghost use Rattle.distances.specs.Greedy.{Pick};
 ghost use Rattle.working_room.specs.Field.{Within, longAt};
 ghost use Rattle.node_queue.specs.Queue.{Roomy};
+ghost use Rattle.run_notes.specs.Noted.{LeavingNoted};
 ghost use Rattle.reach.specs.Stand.{distIn, lastIn};
 ghost use Rattle.first_routes.specs.Firsts.{far, back, Picked};
 ghost use Rattle.first_routes.specs.Measured.{Measured};
@@ -42,8 +43,8 @@ fn lowest(table: &[u8], closed: &[u8], nodes: u32, goal: u32, room: &[u8], v: u3
         × (Pick (netOf nodes (now (table .entry)) (now (closed .entry)))
         (distIn back nodes (now (room .entry))) v r) ⌝ }
 {
-    let end = table::run::run_start(table, nodes, v + 1);
-    let mut arc = closures::next_arc(closed, table::run::run_start(table, nodes, v), end);
+    let end = run_notes::end_of(table, nodes, room, v);
+    let mut arc = closures::next_arc(closed, run_notes::start_of(table, nodes, room, v), end);
     while arc < end {
         if nearer(table, nodes, room, v, arc) {
             return arc;
@@ -74,7 +75,8 @@ fn one(table: &[u8], closed: &[u8], nodes: u32, goal: u32, room: &mut [u8], v: u
 pub fn all(table: &[u8], closed: &[u8], nodes: u32, goal: u32, room: &mut [u8])
     requires { ⌜ (tableFault nodes (now table) ≡ good) × (goal < nodes) × (Roomy nodes (now room))
         × (Found (reversed (netOf nodes (now table) (now closed))) goal far
-        (distIn back nodes (now room)) (lastIn back (now room))) ⌝ }
+        (distIn back nodes (now room)) (lastIn back (now room)))
+        × (LeavingNoted nodes (now table) (now room)) ⌝ }
     ensures { λ y. ⌜ (Within 28 4 (now (room .entry)) (now (room .exit)))
         × (Picked (netOf nodes (now (table .entry)) (now (closed .entry))) goal
         (now (room .exit))) ⌝ }

@@ -15,6 +15,7 @@ ghost use Rattle.table.specs.Run.{runStart};
 ghost use Rattle.distances.specs.Search.{Found};
 ghost use Rattle.working_room.specs.Field.{roomBytes, Within};
 ghost use Rattle.node_queue.specs.Queue.{Roomy};
+ghost use Rattle.run_notes.specs.Noted.{LeavingNoted};
 ghost use Rattle.reach.specs.Stand.{distIn, lastIn};
 ghost use Rattle.first_routes.specs.Firsts.{far, forth, none, rankIn, Ranked};
 ghost use Rattle.first_routes.specs.Measured.{Measured};
@@ -69,7 +70,8 @@ fn enter(room: &mut [u8], w: u32, arc: u32, many: u32)
 // Down by an arc.
 fn down(table: &[u8], nodes: u32, room: &mut [u8], arc: usize, many: u32) -> At
     requires { ⌜ (tableFault nodes (now table) ≡ good) × (Roomy nodes (now room))
-        × (arc < records (now table)) × (many < nodes) ⌝ }
+        × (arc < records (now table)) × (many < nodes)
+        × (LeavingNoted nodes (now table) (now room)) ⌝ }
     ensures { λ r. ⌜ (now (room .exit)
         ≡ entered (now (room .entry)) (toAt (now (table .entry)) arc) arc many)
         × (r ≡ record {
@@ -80,10 +82,11 @@ fn down(table: &[u8], nodes: u32, room: &mut [u8], arc: usize, many: u32) -> At
         }) ⌝ }
 {
     let w = table::arc::to_of(table, arc);
+    let first = run_notes::start_of(table, nodes, room, w);
     enter(room, w, arc as u32, many);
     At {
         v: w,
-        arc: table::run::run_start(table, nodes, w),
+        arc: first,
         many: many + 1,
         over: false,
     }
@@ -124,7 +127,7 @@ fn step(table: &[u8], closed: &[u8], nodes: u32, s: u32, room: &mut [u8], at: At
 {
     let v = at.v;
     let many = at.many;
-    let end = table::run::run_start(table, nodes, v + 1);
+    let end = run_notes::end_of(table, nodes, room, v);
     let arc = closures::next_arc(closed, at.arc, end);
     if arc == end {
         return up(table, s, room, at);
@@ -144,7 +147,7 @@ fn step(table: &[u8], closed: &[u8], nodes: u32, s: u32, room: &mut [u8], at: At
 pub fn all(table: &[u8], closed: &[u8], nodes: u32, s: u32, room: &mut [u8])
     requires { ⌜ (tableFault nodes (now table) ≡ good) × (s < nodes) × (Roomy nodes (now room))
         × (Found (netOf nodes (now table) (now closed)) s far (distIn forth nodes (now room))
-        (lastIn forth (now room))) ⌝ }
+        (lastIn forth (now room))) × (LeavingNoted nodes (now table) (now room)) ⌝ }
     ensures { λ y. ⌜ (Within 20 8 (now (room .entry)) (now (room .exit)))
         × (Ranked (netOf nodes (now (table .entry)) (now (closed .entry))) s
         (now (room .exit))) ⌝ }
@@ -153,7 +156,7 @@ pub fn all(table: &[u8], closed: &[u8], nodes: u32, s: u32, room: &mut [u8])
     working_room::put_word(room, RANK, s as usize, 0);
     let mut at = At {
         v: s,
-        arc: table::run::run_start(table, nodes, s),
+        arc: run_notes::start_of(table, nodes, room, s),
         many: 1,
         over: false,
     };

@@ -3,3 +3,4 @@ pub mod LookingLaws
 pub mod ForwardLaws
 pub mod ChoiceLaws
 pub mod BackwardLaws
+pub mod NotesLaws

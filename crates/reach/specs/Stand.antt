@@ -21,6 +21,11 @@ pub record Stands (x : Stand) : Type 0 where
   pub some-way : 0 < x .far
   pub far-most : x .far ≤ 4611686018427387904
 
+-- They lie before the notes of where runs start.
+pub record BeforeNotes (x : Stand) : Type 0 where
+  pub dist : x .dist + 8 ≤ 56
+  pub last : x .last + 4 ≤ 56
+
 -- The distance of node v, of n, and the key by which it stands in the queue. A number past the nodes is not reached.
 abbrev pub distIn : Stand → ℕ → List ℕ → ℕ → ℕ
 distIn x n l v = cond (ltb v n) (longAt (x .dist) l v) (x .far)

@@ -1,10 +1,10 @@
 // An open arc told by its two nodes and its length.
-use crate::start;
 use crate::step;
 ghost use mathlib.Core.Path.{_≡_};
 ghost use Prim.Native.Nat.{_<_};
 ghost use Rattle.table.specs.Table.{records};
 ghost use Rattle.table.specs.Fault.{tableFault, good};
+ghost use Rattle.table.specs.Run.{runStart};
 ghost use Rattle.reach.specs.Choice.{fits, Chosen};
 
 // Whether arc a comes to v, has this length and is open.
@@ -21,13 +21,22 @@ fn fits(table: &[u8], closed: &[u8], a: usize, v: u32, len: u32) -> bool
     step::is_open(closed, a)
 }
 
-// An open arc of this length from w to v, or the number of arcs where there is none.
-pub fn open_arc(table: &[u8], closed: &[u8], nodes: u32, w: u32, v: u32, len: u32) -> usize
-    requires { ⌜ tableFault nodes (now table) ≡ good ⌝ }
+// An open arc of this length from w to v, or the number of arcs where there is none. The arcs of w
+// start at `first`.
+pub fn open_arc(
+    table: &[u8],
+    closed: &[u8],
+    nodes: u32,
+    w: u32,
+    first: usize,
+    v: u32,
+    len: u32,
+) -> usize
+    requires { ⌜ (tableFault nodes (now table) ≡ good) × (first ≡ runStart (now table) w) ⌝ }
     ensures { λ r. ⌜ Chosen (now (table .entry)) (now (closed .entry)) w v len r ⌝ }
 {
     let end = table.len() / table::arc::RECORD;
-    let mut a = start::leaving(table, nodes, w);
+    let mut a = first;
     while a < end {
         if table::arc::from_of(table, a) != w {
             return end;

@@ -1,18 +1,19 @@
 // Distances from a node.
 use crate::Stand;
-use crate::start;
 use crate::step;
 ghost use mathlib.Core.Path.{_≡_};
 ghost use Prim.Native.Nat.{_<_};
 ghost use Rattle.table.specs.Table.{netOf};
 ghost use Rattle.table.specs.Fault.{tableFault, good};
+ghost use Rattle.table.specs.Run.{runStart};
 ghost use Rattle.distances.specs.Search.{Found};
 ghost use Rattle.node_queue.specs.Queue.{keyAt, Roomy};
-ghost use Rattle.reach.specs.Stand.{Stands, distIn, lastIn, Elsewhere};
+ghost use Rattle.run_notes.specs.Noted.{LeavingNoted};
+ghost use Rattle.reach.specs.Stand.{Stands, BeforeNotes, distIn, lastIn, Elsewhere};
 ghost use Rattle.reach.specs.Turn.{Ready, Over};
 
-// The turn of node u, which comes first: it is done, and the open arcs that leave it are looked at.
-// The node that comes first then.
+// The turn of node u, which comes first: it is done, and the open arcs that leave it, from `first`
+// on, are looked at. The node that comes first then.
 fn leave(
     table: &[u8],
     closed: &[u8],
@@ -21,10 +22,11 @@ fn leave(
     x: Stand,
     room: &mut [u8],
     u: usize,
+    first: usize,
 ) -> usize
     requires { ⌜ (tableFault nodes (now table) ≡ good)
         × (Ready (netOf nodes (now table) (now closed)) s x (now room) u)
-        × (keyAt (now room) u < x .far) ⌝ }
+        × (keyAt (now room) u < x .far) × (first ≡ runStart (now table) u) ⌝ }
     ensures { λ r. ⌜ Over (netOf nodes (now (table .entry)) (now (closed .entry))) s x
         (now (room .entry)) (now (room .exit)) r u ⌝ }
 {
@@ -33,7 +35,7 @@ fn leave(
     let d = working_room::long(room, x.dist, u);
     let mut root = node_queue::set_key(room, n, u, x.far);
     let end = table.len() / table::arc::RECORD;
-    let mut a = start::leaving(table, nodes, v);
+    let mut a = first;
     while a < end {
         if table::arc::from_of(table, a) != v {
             return root;
@@ -59,7 +61,28 @@ pub fn search(table: &[u8], closed: &[u8], nodes: u32, s: u32, x: Stand, room: &
     let mut root = step::start(room, n, x, s as usize);
     let mut key = working_room::long(room, node_queue::winner::KEY, root);
     while key < far {
-        root = leave(table, closed, nodes, s, x, room, root);
+        let first = run_starts::leaving(table, nodes, root as u32);
+        root = leave(table, closed, nodes, s, x, room, root, first);
+        key = working_room::long(room, node_queue::winner::KEY, root);
+    }
+}
+
+// The same where the starts of the runs are noted in the room.
+pub fn noted(table: &[u8], closed: &[u8], nodes: u32, s: u32, x: Stand, room: &mut [u8])
+    requires { ⌜ (tableFault nodes (now table) ≡ good) × (s < nodes) × (Stands x)
+        × (Roomy nodes (now room)) × (BeforeNotes x)
+        × (LeavingNoted nodes (now table) (now room)) ⌝ }
+    ensures { λ y. ⌜ (Elsewhere x (now (room .entry)) (now (room .exit)))
+        × (Found (netOf nodes (now (table .entry)) (now (closed .entry))) s (x .far)
+        (distIn x nodes (now (room .exit))) (lastIn x (now (room .exit)))) ⌝ }
+{
+    let n = nodes as usize;
+    let far = x.far;
+    let mut root = step::start(room, n, x, s as usize);
+    let mut key = working_room::long(room, node_queue::winner::KEY, root);
+    while key < far {
+        let first = run_notes::start_of(table, nodes, room, root as u32);
+        root = leave(table, closed, nodes, s, x, room, root, first);
         key = working_room::long(room, node_queue::winner::KEY, root);
     }
 }

@@ -2,7 +2,6 @@
 pub mod backward;
 mod choice;
 pub mod forward;
-mod start;
 pub mod step;
 
 // Where a search keeps a node's distance and last arc in its record, and what stands for no

@@ -27,12 +27,12 @@ fn walk(table: &[u8], nodes: u32, u: u32, v: u32, first: usize) -> usize
     n
 }
 
-// The first arc from `lo` on that goes from u to v, or the number of arcs.
-pub fn next(table: &[u8], nodes: u32, u: u32, v: u32, lo: usize) -> usize
-    requires { ⌜ (tableFault nodes (now table) ≡ good) × (lo ≤ records (now table)) ⌝ }
+// The first arc from `lo` on that goes from u to v, or the number of arcs; u's arcs start at `first`.
+pub fn next(table: &[u8], nodes: u32, u: u32, first: usize, v: u32, lo: usize) -> usize
+    requires { ⌜ (tableFault nodes (now table) ≡ good) × (first ≡ runStart (now table) u)
+        × (lo ≤ records (now table)) ⌝ }
     ensures { λ r. ⌜ r ≡ nextFrom (now (table .entry)) u v lo ⌝ }
 {
-    let first = table::run::run_start(table, nodes, u);
     if lo < first {
         return walk(table, nodes, u, v, first);
     }

@@ -5,7 +5,8 @@ mod judge;
 
 ghost use mathlib.Core.Path.{_≡_};
 ghost use mathlib.Core.Bool.{false};
-ghost use Prim.Native.Nat.{_<_};
+ghost use Prim.Native.Nat.{_≤_, _<_};
+ghost use lib.ListN.{length};
 ghost use Rattle.table.specs.Table.{records};
 ghost use Rattle.table.specs.Fault.{tableFault, good};
 ghost use Rattle.second.specs.Second.{wrongSecond};
@@ -17,9 +18,10 @@ pub enum Direction {
     Coming,
 }
 
-// Whether the second table is not the arcs of a good first one in their order.
-pub fn wrong(table: &[u8], second: &[u8], nodes: u32) -> bool
-    requires { ⌜ tableFault nodes (now table) ≡ good ⌝ }
+// Whether the second table is not the arcs of a good first one in their order. Start nodes come again
+// soon, so where their arcs start is kept.
+fn wrong_by(table: &[u8], second: &[u8], nodes: u32, starts: &mut [u32]) -> bool
+    requires { ⌜ (tableFault nodes (now table) ≡ good) × (128 ≤ length (now starts)) ⌝ }
     ensures { λ r. ⌜ r ≡ wrongSecond nodes (now (table .entry)) (now (second .entry)) ⌝ }
 {
     if second.len() != table.len() {
@@ -30,7 +32,8 @@ pub fn wrong(table: &[u8], second: &[u8], nodes: u32) -> bool
     let mut lo = 0;
     let mut j = 0;
     while j < n {
-        let a = judge::found_for(table, second, nodes, j, end, lo);
+        let first = run_starts::kept(table, nodes, table::arc::from_of(second, j), starts);
+        let a = judge::found_for(table, second, nodes, j, first, end, lo);
         if n <= a {
             return true;
         }
@@ -39,6 +42,14 @@ pub fn wrong(table: &[u8], second: &[u8], nodes: u32) -> bool
         j += 1;
     }
     false
+}
+
+pub fn wrong(table: &[u8], second: &[u8], nodes: u32) -> bool
+    requires { ⌜ tableFault nodes (now table) ≡ good ⌝ }
+    ensures { λ r. ⌜ r ≡ wrongSecond nodes (now (table .entry)) (now (second .entry)) ⌝ }
+{
+    let mut starts = [0u32; run_starts::KEPT];
+    wrong_by(table, second, nodes, &mut starts)
 }
 
 // Where the arcs that come to v start in a right second table, by halves.

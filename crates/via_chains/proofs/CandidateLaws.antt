@@ -30,7 +30,7 @@ use Rattle.working_room.specs.Field.{roomBytes, longAt, wordAt, Within}
 use Rattle.working_room.proofs.RoomLaws.{within-same, within-trans}
 use Rattle.node_queue.specs.Queue.{keyAt, Roomy, Queue, KeySet, Filled}
 use Rattle.reach.specs.declared.Stand.{Stand}
-use Rattle.reach.specs.Stand.{Stands, distIn, lastIn, Elsewhere}
+use Rattle.reach.specs.Stand.{Stands, BeforeNotes, distIn, lastIn, Elsewhere}
 use Rattle.first_routes.specs.Firsts.{far, forth, back, rankIn, Ranked, Picked}
 use Rattle.via_chains.specs.Chains.{Prepared, noKey, keyFor}
 use Rattle.via_chains.specs.Candidate.{Ready, toOf, onOf, Lined}
@@ -223,6 +223,12 @@ stands-back x e =
       some-way = omega arith;
       far-most = omega arith;
     })
+
+pub before-forth : (x : Stand) → x ≡ forth → BeforeNotes x
+before-forth x e = subst BeforeNotes (sym e) (record { dist = omega arith; last = omega arith })
+
+pub before-back : (x : Stand) → x ≡ back → BeforeNotes x
+before-back x e = subst BeforeNotes (sym e) (record { dist = omega arith; last = omega arith })
 
 -- what a search found, by the names of its fields
 pub found-by : (net : Net) (s n : ℕ) (l : List ℕ) (x y : Stand) → x ≡ y → Found net s (x .far) (distIn x n l) (lastIn x l) → Found net s (y .far) (distIn y n l) (lastIn y l)

@@ -75,9 +75,23 @@ module _ (ask : Ask) (t e l : List ℕ) (v : ℕ) where
     unfolding keyAfter
     key-dropped h = rw (both, test-is, h)
 
+-- a node that has no key has none afterwards, whatever the tests say
+either : (a b : Bool) (x y : ℕ) → x ≡ y → cond a (cond b x y) x ≡ x
+either true true x y e = refl
+either true false x y e = sym e
+either false b x y e = refl
+
+key-gone : (ask : Ask) (t e l : List ℕ) (v : ℕ) → keyAt l v ≡ noKey → keyAfter ask t e l v ≡ keyAt l v
+unfolding keyAfter
+key-gone ask t e l v z =
+    either (bothIn (ask .nodes) l v) (within (netFor ask t []) (ask .a) (ask .b) (joinedIn (netFor ask t []) (ask .s) (ask .goal) l v) e) (keyAt l v) noKey z
+
 -- ---- a node judged
 
 module _ (ask : Ask) (t e l : List ℕ) (v root : ℕ) (q : Queue (ask .nodes) l root) where
+  pub judged-gone : keyAt l v ≡ noKey → Judged ask t e l v l root
+  judged-gone z = record { beside = beside-same l; queue = q; own = sym (key-gone ask t e l v z); others = λ w h ne. refl }
+
   pub judged-none : bothIn (ask .nodes) l v ≡ false → Judged ask t e l v l root
   judged-none z = record { beside = beside-same l; queue = q; own = sym (key-none ask t e l v z); others = λ w h ne. refl }
 

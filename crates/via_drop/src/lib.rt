@@ -80,7 +80,7 @@ fn is_within(ask: Ask, len: u64, overlap: u64) -> bool
 
 // Node v leaves the queue where its candidate is not within the threshold of the route in the slot,
 // whose length is `len`. The node whose candidate is then the first.
-fn judge(
+fn weigh(
     table: &[u8],
     ask: Ask,
     slot: &[u32],
@@ -108,6 +108,31 @@ fn judge(
         return root;
     }
     node_queue::set_key(room, n, v, via_chains::NO_KEY)
+}
+
+// The same; a node that has left the queue stays as it is.
+fn judge(
+    table: &[u8],
+    ask: Ask,
+    slot: &[u32],
+    marks: &[u64],
+    len: u64,
+    room: &mut [u8],
+    v: usize,
+    root: usize,
+) -> usize
+    requires { ⌜ (Dropping ask (now table) (now slot) (now marks) (now room)) × (v < ask .nodes)
+        × (Queue (ask .nodes) (now room) root)
+        × (len ≡ lengthOf (arcsOf (now table)) (routeIn (now slot))) ⌝ }
+    ensures { λ r. ⌜ (Dropping ask (now (table .entry)) (now (slot .entry))
+        (now (marks .entry)) (now (room .exit)))
+        × (Judged ask (now (table .entry)) (routeIn (now (slot .entry)))
+        (now (room .entry)) v (now (room .exit)) r) ⌝ }
+{
+    if working_room::long(room, node_queue::winner::KEY, v) == via_chains::NO_KEY {
+        return root;
+    }
+    weigh(table, ask, slot, marks, len, room, v, root)
 }
 
 // `route` are the arcs of the kept route, and `len` is its length. The node whose candidate is then

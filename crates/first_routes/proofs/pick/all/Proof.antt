@@ -1,4 +1,5 @@
 -- A node a turn. The invariant: only first arcs have changed, and the nodes below v have theirs.
+use mathlib.Core.Path.{refl}
 use Prim.Native.Nat.{_-_, _≤_}
 use native.Mathlib.Omega.{arith}
 use borrow.Author.Needs.{needs}
@@ -32,7 +33,7 @@ loop-holds c =
     let l = s .args .room .now in (
       omega arith,
       within-same 28 4 l,
-      record { no-fault = s .pre .0; roomy = s .pre .2; most = s .pre .3 .most },
+      record { no-fault = s .pre .0; roomy = s .pre .2; most = s .pre .3 .most; noted = s .pre .4 },
       record { on = λ v h ne. let g = goes-on (net s) (s .args .goal) far (distIn back (s .args .nodes) l) (lastIn back l) (s .pre .3) v h ne in (g .0, g .1) },
       record { each = λ v h. absurd (omega arith) },
     )
@@ -49,7 +50,7 @@ loop-again c =
     let m = o .one .last .1 .1 .1 .1 .0 in (
       omega (arith, o .before .before .loop-test .taken),
       within-trans (a .loop .inv .1) (w .within),
-      measured-same back (s .args .nodes) (s .args .table .now) (a .loop .room) m (w .within .long) (back-same (s .args .nodes) (a .loop .room) m (w .within)) (a .loop .inv .2),
+      measured-same back (s .args .nodes) (s .args .table .now) (a .loop .room) m (w .within .long) (back-same (s .args .nodes) (a .loop .room) m (w .within)) (λ u. w .within .field 4 u 56 refl refl) (a .loop .inv .2),
       goes-on-same (net s) (s .args .goal) (a .loop .room) m (w .within) (a .loop .inv .3),
       picked-more (net s) (s .args .goal) (a .loop .room) m (a .loop .v) (a .loop .inv .4) w,
     )

@@ -56,21 +56,21 @@ ready c =
     let l = s .args .room .now in
     ready-same (s .args .nodes) (s .args .table .now) (s .args .closed .now) (s .args .s) l (c .put-word .last .0) (ranked c .0)
     (record {
-      measured = record { no-fault = s .pre .0; roomy = s .pre .2; most = s .pre .3 .most };
+      measured = record { no-fault = s .pre .0; roomy = s .pre .2; most = s .pre .3 .most; noted = s .pre .4 };
       s-below = s .pre .1;
       steady = found-steady (netOf (s .args .nodes) (s .args .table .now) (s .args .closed .now)) (s .args .s) far (distIn forth (s .args .nodes) l) (lastIn forth l) (s .pre .3);
     })
 
 loop-holds : tie.Need-loop-holds Inv-loop μ-loop
 loop-holds c =
-    let p = c .before .before .before in
+    let p = c .before .before .before .before in
     let s = start (unset p) in
     let k = ranked p in
     let w = start-on (s .args .nodes) (s .args .table .now) (s .args .closed .now) (s .args .s) (p .put-word .last .0) (ready p) (k .1) (k .2) in (
       within-same 20 8 (p .put-word .last .0),
       ready p,
       record {
-        going = λ z. subst (λ a. OnWay (s .args .nodes) (s .args .table .now) (s .args .closed .now) (s .args .s) (p .put-word .last .0) (record { v = s .args .s; arc = a; many = 1; over = false })) (sym (c .run-start .ensures)) w;
+        going = λ z. subst (λ a. OnWay (s .args .nodes) (s .args .table .now) (s .args .closed .now) (s .args .s) (p .put-word .last .0) (record { v = s .args .s; arc = a; many = 1; over = false })) (sym (c .start-of .ensures)) w;
         ended = λ z. absurd (subst T (sym z) tt);
       },
     )
@@ -85,14 +85,14 @@ loop-again : tie.Need-loop-again Inv-loop μ-loop
 loop-again c =
     let t = c .before .before in
     let a = t .before .before .before .before in
-    let s = start (unset (a .before .before .before .before)) in (
+    let s = start (unset (a .before .before .before .before .before)) in (
       within-trans (a .loop .inv .0) (t .step .ensures .0),
       ready-same (s .args .nodes) (s .args .table .now) (s .args .closed .now) (s .args .s) (a .loop .room) (t .step .last .1 .1 .1 .1 .0) (t .step .ensures .0) (a .loop .inv .1),
       t .step .ensures .1,
     )
 
-whole : (c : tie.Else1 Inv-loop μ-loop) → Within 20 8 (start (unset (c .before .before .before .before .before .before)) .args .room .now) (c .before .before .loop .room)
-whole c = let a = c .before .before in within-trans (ranked (a .before .before .before .before) .0) (a .loop .inv .0)
+whole : (c : tie.Else1 Inv-loop μ-loop) → Within 20 8 (start (unset (c .before .before .before .before .before .before .before)) .args .room .now) (c .before .before .loop .room)
+whole c = let a = c .before .before in within-trans (ranked (a .before .before .before .before .before) .0) (a .loop .inv .0)
 
 returns : tie.Need-returns Inv-loop μ-loop
 returns c = (whole c, c .before .before .loop .inv .2 .ended (not-false _ (c .if1 .left)))
@@ -105,7 +105,7 @@ all-spec =
     μ-loop
     (λ c κs. search needs)
     put-word-requires
-    (λ c κs. start (unset (c .before .before)) .pre .0)
+    (λ c κs. let m = ready (c .before .before .before) in (m .measured .roomy, m .measured .noted, m .s-below))
     loop-holds
     step-requires
     (λ c. c .before .before .step .ensures .2)

@@ -21,7 +21,7 @@ use Rattle.first_routes.proofs.walk.step.Statement.{statement}
 use Rattle.first_routes.proofs.walk.step.Tie as tie
 
 abbrev start : tie.After-next-arc → tie.Start
-start c = c .before .before .before .before .before
+start c = c .before .before .before .before .before .before
 
 -- what a step leaves
 abbrev Stepped : tie.Start → List ℕ → At → Type 0
@@ -35,13 +35,13 @@ node s = v-below (s .args .nodes) (s .args .table .now) (s .args .closed .now) (
 
 -- the arc is the next open one of its run
 next : (c : tie.After-next-arc) → c .next-arc .result ≡ nextOpen (start c .args .closed .now) (start c .args .at .arc) (runStart (start c .args .table .now) (start c .args .at .v + 1))
-next c = c .next-arc .ensures ∙ ap (nextOpen (start c .args .closed .now) (start c .args .at .arc)) (c .before .run-start .ensures)
+next c = c .next-arc .ensures ∙ ap (nextOpen (start c .args .closed .now) (start c .args .at .arc)) (c .before .end-of .ensures)
 
 inside : (c : tie.Else1) → c .before .next-arc .result < runStart (start (c .before) .args .table .now) (start (c .before) .args .at .v + 1)
 inside c =
     let n = c .before in
     let s = start n in
-    omega (arith, next-within (s .args .closed .now) (s .args .at .arc) (runStart (s .args .table .now) (s .args .at .v + 1)) (n .next-arc .result) (s .pre .2 .run-to) (next n) .1, c .if1 .left, n .before .run-start .ensures)
+    omega (arith, next-within (s .args .closed .now) (s .args .at .arc) (runStart (s .args .table .now) (s .args .at .v + 1)) (n .next-arc .result) (s .pre .2 .run-to) (next n) .1, c .if1 .left, n .before .end-of .ensures)
 
 up-requires : tie.Need-up-requires
 up-requires c κs =
@@ -54,7 +54,7 @@ returns c =
     let n = i .before in
     let s = start n in
     let u = up-on (s .args .nodes) (s .args .table .now) (s .args .closed .now) (s .args .s) (s .args .room .now) (s .pre .0) (s .args .at) (s .pre .1) (s .pre .2) (n .next-arc .result) (next n)
-    (i .if1 .taken ∙ n .before .run-start .ensures) in
+    (i .if1 .taken ∙ n .before .end-of .ensures) in
     subst (Stepped s (s .args .room .now)) (sym (c .up .ensures)) (within-same 20 8 (s .args .room .now), u .0, u .1)
 
 leads-requires : tie.Need-leads-requires
@@ -87,6 +87,7 @@ down-requires c κs =
       s .pre .0 .measured .roomy,
       omega (arith, inside e, run-le (s .args .table .now) (s .args .at .v + 1)),
       some-left (s .args .nodes) (s .args .table .now) (s .args .closed .now) (s .args .s) (s .args .room .now) (s .pre .0) (s .args .at) (s .pre .1) (s .pre .2) (n .next-arc .result) (next n) (inside e) (on (c .before)),
+      s .pre .0 .measured .noted,
     )
 
 returns-3 : tie.Need-returns-3
@@ -106,8 +107,7 @@ pub step-spec : {M : Type 1} → statement M
 step-spec =
     tie.close
     (tie.spec
-    (λ c. let s = c .before .before .before in omega (arith, node s, good-size (s .args .nodes) (s .args .table .now) (s .pre .0 .measured .no-fault) .1))
-    (λ c κs. c .before .before .before .pre .0 .measured .no-fault)
+    (λ c κs. let s = c .before .before .before .before in let m = s .pre .0 .measured in (m .no-fault, m .roomy, m .noted, node s))
     (λ c κs. search needs)
     up-requires
     (λ c. search needs)

@@ -32,16 +32,19 @@ long-requires c κs =
 returns : tie.Need-returns
 returns c = inl (inl (omega (arith, c .if1 .taken, c .before .long .ensures)), refl, refl)
 
+start-of-requires : tie.Need-start-of-requires
+start-of-requires c κs = let s = begun (c .before .before) in (s .pre .2 .roomy, s .pre .4, s .pre .3)
+
 returns-2 : tie.Need-returns-2
 returns-2 c =
     let k = c .before in
-    let s = begun (k .before .before) in
+    let s = begun (k .before .before .before .before) in
     inl (inr (is-none (s .args .table .now) (s .args .closed .now) (s .args .w) (s .args .v) (s .args .len) (k .open-arc .result) (k .open-arc .ensures) (c .if2 .taken)), refl, refl)
 
 look-requires : tie.Need-look-requires
 look-requires c κs =
     let e = c .before in
-    let s = begun (e .before .before .before) in
+    let s = begun (e .before .before .before .before .before) in
     (s .pre .1, s .pre .2, s .pre .3, omega (arith, e .if2 .left, good-size (s .args .nodes) (s .args .table .now) (s .pre .0) .3))
 
 returns-3 : tie.Need-returns-3
@@ -49,10 +52,10 @@ returns-3 c =
     let o = c .before .before in
     let e = o .before .before in
     let k = e .before in
-    let s = begun (k .before .before) in
+    let s = begun (k .before .before .before .before) in
     inr (k .open-arc .result, is-one (s .args .table .now) (s .args .closed .now) (s .args .w) (s .args .v) (s .args .len) (k .open-arc .result) (k .open-arc .ensures) (e .if2 .left), o .look .ensures)
 
 pub bring-spec : {M : Type 1} → statement M
 bring-spec =
     tie.close
-    (tie.spec long-requires (λ c. search needs) returns (λ c κs. search needs) (λ c. search needs) returns-2 look-requires (λ c. search needs) returns-3)
+    (tie.spec long-requires (λ c. search needs) returns start-of-requires (λ c κs. search needs) (λ c. search needs) returns-2 look-requires (λ c. search needs) returns-3)

@@ -13,24 +13,25 @@ use Rattle.second.specs.Second.{numberAt}
 use Rattle.second.specs.Lookup.{comingStart}
 use Rattle.second.proofs.ComingLaws.{coming-le, coming-count}
 use Rattle.reach.specs.Turn.{Turn, Over}
-use Rattle.reach.proofs.StandLaws.{record-in}
+use Rattle.reach.proofs.StandLaws.{else-trans, record-in}
+use Rattle.reach.proofs.NotesLaws.{leaving-else}
 use Rattle.reach.proofs.LookingLaws.{turn-begin, turn-anew, turn-far, over-since}
 use Rattle.reach.proofs.BackwardLaws.{Along, goes-on, ends-here, along-first, along-on, from-in, backward-bring, backward-over}
 use Rattle.reach.proofs.backward.leave.Statement.{statement}
 use Rattle.reach.proofs.backward.leave.Tie as tie
 
 abbrev Inv-loop : tie.InvT-loop
-Inv-loop table second closed nodes goal x room₀ u n v d root₀ end j₀ room root j =
+Inv-loop table second closed nodes goal x room₀ u first n v d root₀ end j₀ room root j =
     (length room ≡ length room₀) × (lo : ℕ) × Along nodes table second u (comingStart second (u + 1)) j lo × Turn (reversed (netOf nodes table closed)) goal x room₀ room root u d lo
 
 abbrev μ-loop : tie.MeasureT-loop
-μ-loop table second closed nodes goal x room₀ u n v d root₀ end j₀ room root j = end - j
+μ-loop table second closed nodes goal x room₀ u first n v d root₀ end j₀ room root j = end - j
 
 abbrev begun : tie.After-set-key Inv-loop μ-loop → tie.Start Inv-loop μ-loop
 begun k = k .before .before .before .before .before .before .before .before
 
-abbrev keyed : tie.After-coming Inv-loop μ-loop → tie.After-set-key Inv-loop μ-loop
-keyed r = r .before .before .before
+abbrev keyed : tie.After-slice-known2 Inv-loop μ-loop → tie.After-set-key Inv-loop μ-loop
+keyed r = r .before .before
 
 abbrev net : tie.Start Inv-loop μ-loop → Net
 net s = reversed (netOf (s .args .nodes) (s .args .table .now) (s .args .closed .now))
@@ -67,7 +68,7 @@ loop-holds c =
     let s = begun k in (
       refl,
       0,
-      along-first (s .args .nodes) (s .args .table .now) (s .args .second .now) (s .pre .0) (s .pre .1) (s .args .u) _ refl (c .coming .result) (c .coming .ensures),
+      along-first (s .args .nodes) (s .args .table .now) (s .args .second .now) (s .pre .0) (s .pre .1) (s .args .u) _ refl (s .args .first) (s .pre .4),
       turn-anew (net s) (s .args .goal) (s .args .x) (s .args .room .now) (k .set-key .last .0) (k .set-key .result) (s .args .u) (k .before .before .long .result) 0 (begins k),
     )
 
@@ -123,7 +124,13 @@ bring-requires c κs =
     let e = f .before in
     let a = e .before .before .before in
     let q = a .loop .inv .3 .looking in
-    (first a .pre .0, q .stands, q .queue, omega (arith, from-j e, f .from-of .ensures))
+    let s = first a in (
+      s .pre .0,
+      q .stands,
+      q .queue,
+      omega (arith, from-j e, f .from-of .ensures),
+      leaving-else (s .args .x) (s .pre .5) (s .args .nodes) (s .args .table .now) (else-trans (s .args .x) (begins (settled a) .since .elsewhere) (a .loop .inv .3 .since .elsewhere)) (s .pre .6),
+    )
 
 add-j : tie.Need-add-j Inv-loop μ-loop
 add-j c =
@@ -164,7 +171,6 @@ leave-spec =
     cast-v
     long-requires
     set-key-requires
-    (λ c κs. search needs)
     loop-holds
     (λ c κs. c .loop-test .taken)
     (λ c. search needs)

@@ -10,6 +10,7 @@ use Rattle.node_queue.specs.Queue.{keyAt}
 use Rattle.reach.specs.Stand.{doneIn, Elsewhere}
 use Rattle.reach.specs.Turn.{Ready}
 use Rattle.reach.proofs.StandLaws.{else-same, else-trans, record-in}
+use Rattle.reach.proofs.NotesLaws.{leaving-else, coming-else}
 use Rattle.reach.proofs.LookingLaws.{ready-start, ready-found, left, over-less}
 use Rattle.reach.proofs.backward.search.Statement.{statement}
 use Rattle.reach.proofs.backward.search.Tie as tie
@@ -43,24 +44,42 @@ loop-holds c =
 abbrev started : tie.At-loop Inv-loop μ-loop → tie.After-start Inv-loop μ-loop
 started a = a .before .before .before .before .before
 
+word-requires : tie.Need-word-requires Inv-loop μ-loop
+unfolding reversed
+word-requires c κs =
+    let a = c .before .before in
+    let q = a .loop .inv .3 .looking .queue in
+    (record-in (begun (started a) .args .nodes) (a .loop .room) (a .loop .root) (q .roomy) (q .root .used), omega arith)
+
 leave-requires : tie.Need-leave-requires Inv-loop μ-loop
+unfolding reversed
 leave-requires c κs =
-    let i = c .before in
+    let i = c .before .before .before in
     let a = i .before in
-    (begun (started a) .pre .0, begun (started a) .pre .1, a .loop .inv .3, omega (arith, i .loop-test .taken, a .loop .inv .2))
+    let p = started a in
+    let s = begun p in
+    let e = else-trans (s .args .x) (p .start .ensures .elsewhere) (a .loop .inv .1) in (
+      s .pre .0,
+      s .pre .1,
+      a .loop .inv .3,
+      omega (arith, i .loop-test .taken, a .loop .inv .2),
+      c .before .word .ensures ∙ coming-else (s .args .x) (s .pre .5) (s .args .nodes) (s .args .second .now) e (s .pre .7) .at (a .loop .root) (a .loop .inv .3 .looking .queue .root .used),
+      s .pre .5,
+      leaving-else (s .args .x) (s .pre .5) (s .args .nodes) (s .args .table .now) e (s .pre .6),
+    )
 
 long-requires-2 : tie.Need-long-requires-2 Inv-loop μ-loop
 unfolding reversed
 long-requires-2 c κs =
     let v = c .before .before .before in
     let q = v .leave .ensures .ready .looking .queue in
-    (record-in (begun (started (v .before .before .before)) .args .nodes) (v .leave .last .1 .1 .1 .1 .1 .1 .0) (v .leave .result) (q .roomy) (q .root .used), omega arith)
+    (record-in (begun (started (v .before .before .before .before .before)) .args .nodes) (v .leave .last .1 .1 .1 .1 .1 .1 .0) (v .leave .result) (q .roomy) (q .root .used), omega arith)
 
 loop-less : tie.Need-loop-less Inv-loop μ-loop
 unfolding reversed
 loop-less c =
     let v = c .before .before .before .before in
-    let i = v .before .before in
+    let i = v .before .before .before .before in
     let a = i .before in
     let s = begun (started a) in
     over-less (net s) (s .args .goal) (s .args .x) (a .loop .room) (v .leave .last .1 .1 .1 .1 .1 .1 .0) (a .loop .root) (v .leave .result) (a .loop .inv .3) (omega (arith, i .loop-test .taken, a .loop .inv .2)) (v .leave .ensures)
@@ -68,7 +87,7 @@ loop-less c =
 loop-again : tie.Need-loop-again Inv-loop μ-loop
 loop-again c =
     let v = c .before .before .before .before in
-    let a = v .before .before .before in
+    let a = v .before .before .before .before .before in
     let s = begun (started a) in
     (v .leave .ensures .since .elsewhere .long ∙ a .loop .inv .0, else-trans (s .args .x) (a .loop .inv .1) (v .leave .ensures .since .elsewhere), c .long2 .ensures, v .leave .ensures .ready)
 
@@ -92,6 +111,8 @@ search-spec =
     (λ c κs. search needs)
     long-requires
     loop-holds
+    word-requires
+    (λ c. search needs)
     leave-requires
     long-requires-2
     loop-less

@@ -13,22 +13,22 @@ use Rattle.reach.proofs.choice.open_arc.Statement.{statement}
 use Rattle.reach.proofs.choice.open_arc.Tie as tie
 
 abbrev Inv-loop : tie.InvT-loop
-Inv-loop table closed nodes w v len end a₀ a = (runStart table w ≤ a) × ((i : ℕ) → runStart table w ≤ i → i < a → fits table closed v len i ≡ false)
+Inv-loop table closed nodes w first v len end a₀ a = (runStart table w ≤ a) × ((i : ℕ) → runStart table w ≤ i → i < a → fits table closed v len i ≡ false)
 
 abbrev μ-loop : tie.MeasureT-loop
-μ-loop table closed nodes w v len end a₀ a = end - a
+μ-loop table closed nodes w first v len end a₀ a = end - a
 
 abbrev start : tie.At-loop Inv-loop μ-loop → tie.Start Inv-loop μ-loop
-start a = a .before .before .before .before
+start a = a .before .before .before
 
 loop-holds : tie.Need-loop-holds Inv-loop μ-loop
-loop-holds c = (omega (arith, c .leaving .ensures), λ i p q. absurd (omega (arith, c .leaving .ensures)))
+loop-holds c = let s = c .before .before in (omega (arith, s .pre .1), λ i p q. absurd (omega (arith, s .pre .1)))
 
 returns : tie.Need-returns Inv-loop μ-loop
 returns c =
     let k = c .before .before .before in
     let s = start k in
-    inr (refl, none-more (s .args .nodes) (s .args .table .now) (s .args .closed .now) (s .pre) (s .args .w) (s .args .v) (s .args .len) (k .loop .a) (k .loop .inv .0) (k .loop .inv .1) (λ z. c .if1 .taken (c .before .from-of .ensures ∙ z)))
+    inr (refl, none-more (s .args .nodes) (s .args .table .now) (s .args .closed .now) (s .pre .0) (s .args .w) (s .args .v) (s .args .len) (k .loop .a) (k .loop .inv .0) (k .loop .inv .1) (λ z. c .if1 .taken (c .before .from-of .ensures ∙ z)))
 
 returns-2 : tie.Need-returns-2 Inv-loop μ-loop
 returns-2 c =
@@ -51,7 +51,7 @@ returns-3 : tie.Need-returns-3 Inv-loop μ-loop
 returns-3 c =
     let k = c .before in
     let s = start k in
-    inr (refl, none-left (s .args .nodes) (s .args .table .now) (s .args .closed .now) (s .pre) (s .args .w) (s .args .v) (s .args .len) (k .loop .a) (k .loop .inv .0) (k .loop .inv .1) (c .loop-test .left))
+    inr (refl, none-left (s .args .nodes) (s .args .table .now) (s .args .closed .now) (s .pre .0) (s .args .w) (s .args .v) (s .args .len) (k .loop .a) (k .loop .inv .0) (k .loop .inv .1) (c .loop-test .left))
 
 pub open-arc-spec : {M : Type 1} → statement M
 open-arc-spec =
@@ -59,7 +59,6 @@ open-arc-spec =
     (tie.spec
     Inv-loop
     μ-loop
-    (λ c κs. search needs)
     loop-holds
     (λ c κs. c .loop-test .taken)
     returns

@@ -17,17 +17,17 @@ use Rattle.reach.proofs.forward.leave.Statement.{statement}
 use Rattle.reach.proofs.forward.leave.Tie as tie
 
 abbrev Inv-loop : tie.InvT-loop
-Inv-loop table closed nodes s x room₀ u n v d root₀ end a₀ room root a =
+Inv-loop table closed nodes s x room₀ u first n v d root₀ end a₀ room root a =
     (runStart table u ≤ a) × (length room ≡ length room₀) × Turn (netOf nodes table closed) s x room₀ room root u d a
 
 abbrev μ-loop : tie.MeasureT-loop
-μ-loop table closed nodes s x room₀ u n v d root₀ end a₀ room root a = end - a
+μ-loop table closed nodes s x room₀ u first n v d root₀ end a₀ room root a = end - a
 
 abbrev begun : tie.After-set-key Inv-loop μ-loop → tie.Start Inv-loop μ-loop
 begun k = k .before .before .before .before .before .before .before
 
-abbrev keyed : tie.After-leaving Inv-loop μ-loop → tie.After-set-key Inv-loop μ-loop
-keyed r = r .before .before .before
+abbrev keyed : tie.After-slice-known2 Inv-loop μ-loop → tie.After-set-key Inv-loop μ-loop
+keyed r = r .before .before
 
 abbrev net : tie.Start Inv-loop μ-loop → Net
 net s = netOf (s .args .nodes) (s .args .table .now) (s .args .closed .now)
@@ -55,10 +55,10 @@ loop-holds : tie.Need-loop-holds Inv-loop μ-loop
 loop-holds c =
     let k = keyed c in
     let s = begun k in (
-      omega (arith, c .leaving .ensures),
+      omega (arith, s .pre .3),
       refl,
       forward-first (s .args .nodes) (s .args .table .now) (s .args .closed .now) (s .pre .0) (s .args .s) (s .args .x) (k .set-key .last .0) (k .set-key .last .0) (k .set-key .result) (s .args .u)
-          (k .before .before .long .result) (c .leaving .result) (c .leaving .ensures)
+          (k .before .before .long .result) (s .args .first) (s .pre .3)
           (turn-anew (net s) (s .args .s) (s .args .x) (s .args .room .now) (k .set-key .last .0) (k .set-key .result) (s .args .u) (k .before .before .long .result) 0 (begins k)),
     )
 
@@ -132,7 +132,6 @@ leave-spec =
     (λ c. search needs)
     long-requires
     set-key-requires
-    (λ c κs. search needs)
     loop-holds
     (λ c κs. c .loop-test .taken)
     (λ c. search needs)

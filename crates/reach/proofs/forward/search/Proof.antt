@@ -41,22 +41,25 @@ loop-holds c =
 abbrev started : tie.At-loop Inv-loop μ-loop → tie.After-start Inv-loop μ-loop
 started a = a .before .before .before .before .before
 
+cast-leaving : tie.Need-cast-leaving Inv-loop μ-loop
+cast-leaving c = omega (arith, c .before .loop .inv .3 .looking .queue .root .used)
+
 leave-requires : tie.Need-leave-requires Inv-loop μ-loop
 leave-requires c κs =
-    let i = c .before in
+    let i = c .before .before in
     let a = i .before in
-    (begun (started a) .pre .0, a .loop .inv .3, omega (arith, i .loop-test .taken, a .loop .inv .2))
+    (begun (started a) .pre .0, a .loop .inv .3, omega (arith, i .loop-test .taken, a .loop .inv .2), c .before .leaving .ensures)
 
 long-requires-2 : tie.Need-long-requires-2 Inv-loop μ-loop
 long-requires-2 c κs =
     let v = c .before .before .before in
     let q = v .leave .ensures .ready .looking .queue in
-    (record-in (begun (started (v .before .before .before)) .args .nodes) (v .leave .last .1 .1 .1 .1 .1 .0) (v .leave .result) (q .roomy) (q .root .used), omega arith)
+    (record-in (begun (started (v .before .before .before .before)) .args .nodes) (v .leave .last .1 .1 .1 .1 .1 .0) (v .leave .result) (q .roomy) (q .root .used), omega arith)
 
 loop-less : tie.Need-loop-less Inv-loop μ-loop
 loop-less c =
     let v = c .before .before .before .before in
-    let i = v .before .before in
+    let i = v .before .before .before in
     let a = i .before in
     let s = begun (started a) in
     over-less (net s) (s .args .s) (s .args .x) (a .loop .room) (v .leave .last .1 .1 .1 .1 .1 .0) (a .loop .root) (v .leave .result) (a .loop .inv .3) (omega (arith, i .loop-test .taken, a .loop .inv .2)) (v .leave .ensures)
@@ -64,7 +67,7 @@ loop-less c =
 loop-again : tie.Need-loop-again Inv-loop μ-loop
 loop-again c =
     let v = c .before .before .before .before in
-    let a = v .before .before .before in
+    let a = v .before .before .before .before in
     let s = begun (started a) in
     (v .leave .ensures .since .elsewhere .long ∙ a .loop .inv .0, else-trans (s .args .x) (a .loop .inv .1) (v .leave .ensures .since .elsewhere), c .long2 .ensures, v .leave .ensures .ready)
 
@@ -87,6 +90,8 @@ search-spec =
     (λ c κs. search needs)
     long-requires
     loop-holds
+    cast-leaving
+    (λ c κs. search needs)
     leave-requires
     long-requires-2
     loop-less

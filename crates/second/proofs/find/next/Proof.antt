@@ -8,14 +8,13 @@ use Rattle.second.proofs.find.next.Tie as tie
 
 walk-requires : tie.Need-walk-requires
 walk-requires c κs =
-    let s = c .before .before .before in
-    (s .pre .0, omega arith, omega (arith, run-le (s .args .table .now) (s .args .u)))
+    let s = c .before .before in
+    (s .pre .0, omega (arith, s .pre .1), omega (arith, s .pre .1, run-le (s .args .table .now) (s .args .u)))
 
 returns : tie.Need-returns
 returns c =
-    let k = c .before .before in
-    let s = k .before .before in
-    cc (next-run (s .args .table .now) (s .args .u) (s .args .v) (s .args .lo) (omega arith))
+    let s = c .before .before .before in
+    cc (s .pre .1, next-run (s .args .table .now) (s .args .u) (s .args .v) (s .args .lo) (omega (arith, s .pre .1)))
 
 pub next-spec : {M : Type 1} → statement M
-next-spec = tie.close (tie.spec (λ c κs. search needs) walk-requires returns (λ c κs. search needs) (λ c. search needs))
+next-spec = tie.close (tie.spec walk-requires returns (λ c κs. search needs) (λ c. search needs))

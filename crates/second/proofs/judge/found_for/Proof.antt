@@ -1,8 +1,9 @@
 -- The tests are those of the definition. Where no arc goes from the record's start to its end, the number of arcs is given either way.
-use mathlib.Core.Path.{_≡_, sym}
+use mathlib.Core.Path.{_≡_, sym, ap, _∙_}
 use native.Mathlib.Omega.{arith}
 use borrow.Author.Needs.{needs}
 use Rattle.table.specs.Table.{records}
+use Rattle.table.specs.Run.{runStart}
 use Rattle.second.proofs.JudgeLaws.{look-le, candidate, found-order, found-none, found-alike, found-unlike}
 use Rattle.second.proofs.judge.found_for.Statement.{statement}
 use Rattle.second.proofs.judge.found_for.Tie as tie
@@ -25,13 +26,13 @@ returns c =
 next-requires : tie.Need-next-requires
 next-requires c κs =
     let s = start (c .before .before .before) in
-    (s .pre .0, omega (arith, look-le (s .args .end) (s .args .lo) (c .before .before .before .to-of .result) (records (s .args .table .now)) (s .pre .2)))
+    (s .pre .0, s .pre .2 ∙ ap (runStart (s .args .table .now)) (sym (c .before .from-of .ensures)), omega (arith, look-le (s .args .end) (s .args .lo) (c .before .before .before .to-of .result) (records (s .args .table .now)) (s .pre .3)))
 
 returns-2 : tie.Need-returns-2
 returns-2 c =
     let k = c .before in
     let s = start (at k) in
-    sym (found-none (s .args .table .now) (s .args .second .now) (s .args .j) (s .args .end) (s .args .lo) (omega arith) (s .pre .2) (omega (arith, found k)))
+    sym (found-none (s .args .table .now) (s .args .second .now) (s .args .j) (s .args .end) (s .args .lo) (omega arith) (s .pre .3) (omega (arith, found k)))
 
 returns-3 : tie.Need-returns-3
 returns-3 c =
