@@ -1,14 +1,15 @@
 /* The library against two baselines in C, the plain one and the best one: times by size, k and threshold; with road numbers beside zeros; growth of time with labels;
- * large queries; via routes against a plain C of theirs; times of a road file and of files of accepted plans; the stack that each call needs.
+ * large queries; via routes and pairs against a plain C of theirs; times of a road file and of files of accepted plans; the stack that each call needs.
  *
  *     bench [--quick | --large]     --quick: only drawn tables and the rows of the smallest network, with three legs; --large: the large queries to the library too
  *
- * Each query is put to all three, one for via routes to the library and their plain C, and all results are compared. Exits 1 if any differ, or if the library leaves a byte it should not. */
+ * Each query is put to all three, one for via routes or a pair to the library and their plain C, and all results are compared, of pairs the totals. Exits 1 if any differ, or if the library leaves a byte it should not. */
 #define _POSIX_C_SOURCE 200809L
 
 #include "baseline.h"
 #include "best.h"
 #include "network.h"
+#include "suurballe.h"
 #include "svp.h"
 
 #include <inttypes.h>
@@ -42,7 +43,7 @@ struct lent {
     _Alignas(16) uint8_t labels[(MARGIN + OJEONBUT_LABELS + MARGIN) * OJEONBUT_LABEL];
     uint32_t area[MARGIN + OJEONBUT_ROUTES * (OJEONBUT_NODES - 1) + MARGIN];
     ojeonbut_summary summaries[MARGIN + OJEONBUT_ROUTES + MARGIN];
-    uint8_t work[(MARGIN + OJEONBUT_NODES + MARGIN) * NODE_WORK]; /* of via routes */
+    uint8_t work[(MARGIN + OJEONBUT_NODES + MARGIN) * NODE_WORK]; /* of via routes and pairs */
 };
 
 struct query {
@@ -52,6 +53,7 @@ struct query {
     size_t room;
     const uint8_t *closed; /* a byte for each arc, or NULL for the call without closures */
     const uint8_t *second; /* for via routes, which take closures; or NULL */
+    bool pair;             /* for two routes with nothing in common, which take closures; k is 2 */
 };
 
 /* What the queries of a row add up to. */
@@ -67,7 +69,7 @@ struct size {
     uint32_t width, height, legs;
 };
 
-/* The calls of a search, the two with labels or the one for via routes, or all. */
+/* The calls of a search, the two with labels, the one for via routes or the one for a pair, or all. */
 struct search {
     ojeonbut_reply (*query)(const uint8_t *, size_t, uint32_t, uint32_t, uint32_t, uint32_t, uint32_t, uint32_t, uint8_t *, size_t, uint32_t *, size_t, ojeonbut_summary *,
                             size_t);
@@ -75,12 +77,14 @@ struct search {
                                    uint32_t *, size_t, ojeonbut_summary *, size_t);
     ojeonbut_reply (*query_via)(const uint8_t *, size_t, const uint8_t *, size_t, uint32_t, uint32_t, uint32_t, uint32_t, uint32_t, uint32_t, const uint8_t *, size_t,
                                 uint32_t *, size_t, ojeonbut_summary *, size_t, uint8_t *, size_t);
+    ojeonbut_reply (*pair)(const uint8_t *, size_t, uint32_t, uint32_t, uint32_t, const uint8_t *, size_t, uint32_t *, size_t, ojeonbut_summary *, size_t, uint8_t *, size_t);
 };
 
-static const struct search library_search = {ojeonbut_query, ojeonbut_query_closed, ojeonbut_query_via};
-static const struct search baseline_search = {baseline_query, baseline_query_closed, NULL};
-static const struct search best_search = {best_query, best_query_closed, NULL};
-static const struct search svp_search = {NULL, NULL, svp_query_via};
+static const struct search library_search = {ojeonbut_query, ojeonbut_query_closed, ojeonbut_query_via, ojeonbut_pair};
+static const struct search baseline_search = {.query = baseline_query, .query_closed = baseline_query_closed};
+static const struct search best_search = {.query = best_query, .query_closed = best_query_closed};
+static const struct search svp_search = {.query_via = svp_query_via};
+static const struct search suurballe_search = {.pair = suurballe_pair};
 
 static struct network net, numbered;
 static struct lent of_library, of_baseline, of_best;
@@ -117,6 +121,14 @@ static __attribute__((noinline)) ojeonbut_reply ask_via(const struct search *sea
                              m->area + MARGIN, q->k * (n->nodes - 1), m->summaries + MARGIN, q->k, m->work + MARGIN * NODE_WORK, n->nodes * NODE_WORK);
 }
 
+/* Apart for the same reason. */
+static __attribute__((noinline)) ojeonbut_reply ask_pair(const struct search *search, const struct query *q, struct lent *m)
+{
+    const struct network *n = q->net;
+    return search->pair(n->table, n->bytes, n->nodes, q->leg.start, q->leg.goal, q->closed, n->bytes / OJEONBUT_RECORD, m->area + MARGIN, 2 * (n->nodes - 1),
+                        m->summaries + MARGIN, 2, m->work + MARGIN * NODE_WORK, n->nodes * NODE_WORK);
+}
+
 /* Exactly what the answer needs is lent, out of the middle of m. */
 static ojeonbut_reply ask(const struct search *search, const struct query *q, struct lent *m)
 {
@@ -125,12 +137,17 @@ static ojeonbut_reply ask(const struct search *search, const struct query *q, st
     size_t label_bytes = q->room * OJEONBUT_LABEL, words = q->k * (n->nodes - 1);
     if (q->second)
         return ask_via(search, q, m);
+    if (q->pair)
+        return ask_pair(search, q, m);
     if (!q->closed)
         return search->query(n->table, n->bytes, n->nodes, q->leg.start, q->leg.goal, q->k, q->a, q->b, labels, label_bytes, m->area + MARGIN, words, m->summaries + MARGIN,
                              q->k);
     return search->query_closed(n->table, n->bytes, n->nodes, q->leg.start, q->leg.goal, q->k, q->a, q->b, q->closed, n->bytes / OJEONBUT_RECORD, labels, label_bytes,
                                 m->area + MARGIN, words, m->summaries + MARGIN, q->k);
 }
+
+/* Whether the query is lent a working room. */
+static bool works(const struct query *q) { return q->second || q->pair; }
 
 /* The bytes of m that the query is lent as labels, with those on either side. */
 static size_t bytes_of_labels(const struct query *q) { return (MARGIN + q->room + MARGIN) * OJEONBUT_LABEL; }
@@ -140,7 +157,7 @@ static double timed(const struct search *search, const struct query *q, struct l
     memset(m->labels, JUNK, bytes_of_labels(q));
     memset(m->area, JUNK, sizeof m->area);
     memset(m->summaries, JUNK, sizeof m->summaries);
-    if (q->second)
+    if (works(q))
         memset(m->work, JUNK, sizeof m->work);
     double begin = seconds();
     *reply = ask(search, q, m);
@@ -181,15 +198,12 @@ static const char *other_result(const struct query *q, ojeonbut_reply reply, con
     return NULL;
 }
 
-/* What is wrong with the library's results, or NULL. */
-static const char *difference(const struct query *q, ojeonbut_reply library, ojeonbut_reply baseline)
+/* What the library leaves as it should not, beside its results, or NULL. */
+static const char *left_behind(const struct query *q)
 {
     const struct lent *m = &of_library;
     size_t words = q->k * (q->net->nodes - 1);
     const uint8_t *labels = m->labels + MARGIN * OJEONBUT_LABEL, *labels_end = labels + q->room * OJEONBUT_LABEL;
-    const char *other = other_result(q, library, m, baseline);
-    if (other)
-        return other;
     if (!only(labels, labels_end, 0))
         return "labels not all zero afterwards";
     if (!only(m->labels, labels, JUNK) || !only(labels_end, m->labels + bytes_of_labels(q), JUNK))
@@ -200,11 +214,18 @@ static const char *difference(const struct query *q, ojeonbut_reply library, oje
         !only(m->summaries + MARGIN + q->k, (const uint8_t *)m->summaries + sizeof m->summaries, JUNK))
         return "summaries before or after those lent";
     const uint8_t *work = m->work + MARGIN * NODE_WORK, *work_end = work + q->net->nodes * NODE_WORK;
-    if (q->second && !only(work, work_end, 0))
+    if (works(q) && !only(work, work_end, 0))
         return "working room not all zero afterwards";
-    if (q->second && (!only(m->work, work, JUNK) || !only(work_end, m->work + sizeof m->work, JUNK)))
+    if (works(q) && (!only(m->work, work, JUNK) || !only(work_end, m->work + sizeof m->work, JUNK)))
         return "bytes before or after the working room";
     return NULL;
+}
+
+/* What is wrong with the library's results, or NULL. */
+static const char *difference(const struct query *q, ojeonbut_reply library, ojeonbut_reply baseline)
+{
+    const char *other = other_result(q, library, &of_library, baseline);
+    return other ? other : left_behind(q);
 }
 
 static void print_results(const char *name, const struct query *q, ojeonbut_reply reply, const struct lent *m)
@@ -641,6 +662,19 @@ static void row_of_via(const char *name, const struct leg *legs, uint32_t count,
     fflush(stdout);
 }
 
+/* Corners opposite each other, and drawn legs. */
+static void make_legs(uint32_t side, struct leg *corners, struct leg *drawn)
+{
+    uint32_t last = net.nodes - 1, below = net.nodes - side;
+    const struct leg opposite[] = {{0, last}, {last, 0}, {side - 1, below}, {below, side - 1}};
+    memcpy(corners, opposite, sizeof opposite);
+    uint64_t seed = net.nodes;
+    for (uint32_t i = 0; i < LEGS; i++) {
+        drawn[i].start = network_draw(&seed, net.nodes);
+        drawn[i].goal = (drawn[i].start + 1 + network_draw(&seed, last)) % net.nodes;
+    }
+}
+
 static void table_of_via(bool quick)
 {
     printf("\nVia routes, 1/2. Legs between opposite corners, and between drawn nodes. Ratio: the library's time over that of the plain C (bench/svp.c). Found: of how many legs there\n"
@@ -651,17 +685,109 @@ static void table_of_via(bool quick)
     for (uint32_t side = 32; side <= (quick ? 32 : 64); side *= 2) {
         make(&net, side, side, LONGEST);
         svp_second(net.table, net.bytes, net.nodes, second);
-        const struct leg corners[] = {{0, net.nodes - 1}, {net.nodes - 1, 0}, {side - 1, net.nodes - side}, {net.nodes - side, side - 1}};
-        struct leg drawn[LEGS];
-        uint64_t seed = net.nodes;
-        for (uint32_t i = 0; i < LEGS; i++) {
-            drawn[i].start = network_draw(&seed, net.nodes);
-            drawn[i].goal = (drawn[i].start + 1 + network_draw(&seed, net.nodes - 1)) % net.nodes;
-        }
+        struct leg corners[4], drawn[LEGS];
+        make_legs(side, corners, drawn);
         for (uint32_t k = 2; k <= (quick ? 2 : 4); k += 2) {
             row_of_via("corners", corners, quick ? 1 : 4, k);
             row_of_via("drawn", drawn, quick ? QUICK_LEGS : LEGS, k);
         }
+    }
+}
+
+static uint32_t word(const uint8_t *p) { return p[0] | (uint32_t)p[1] << 8 | (uint32_t)p[2] << 16 | (uint32_t)p[3] << 24; }
+
+/* What is wrong with the pair in m, which has to be two simple routes that share no arc, the one that precedes first; or NULL. */
+static const char *wrong_pair(const struct query *q, const struct lent *m)
+{
+    static uint8_t driven[OJEONBUT_ARCS], visited[OJEONBUT_NODES];
+    const struct network *n = q->net;
+    const uint32_t *slot = m->area + MARGIN;
+    const ojeonbut_summary *s = m->summaries + MARGIN;
+    memset(driven, 0, sizeof driven);
+    for (uint32_t r = 0; r < 2; r++, slot += n->nodes - 1) {
+        uint32_t v = q->leg.start, count = 0;
+        uint64_t length = 0;
+        memset(visited, 0, sizeof visited);
+        for (; count < n->nodes - 1 && slot[count] != OJEONBUT_NONE; count++) {
+            const uint8_t *record = n->table + (size_t)slot[count] * OJEONBUT_RECORD;
+            if (slot[count] >= n->bytes / OJEONBUT_RECORD || driven[slot[count]] || q->closed[slot[count]] || visited[v] || word(record) != v)
+                return "an arc of the pair that is shared, closed, or out of place";
+            driven[slot[count]] = visited[v] = 1;
+            length += word(record + 8);
+            v = word(record + 4);
+        }
+        if (v != q->leg.goal || visited[v] || !only(slot + count, slot + n->nodes - 1, 0xff) || s[r].length != length || s[r].arcs != count || s[r].labels != 0)
+            return "a route of the pair that ends elsewhere, or its summary";
+    }
+    slot = m->area + MARGIN;
+    return s[0].length < s[1].length || (s[0].length == s[1].length && slot[0] < slot[n->nodes - 1]) ? NULL : "the order of the pair";
+}
+
+/* What differs between the library's pair and the plain C's, or NULL: either may be any of the least total. */
+static const char *other_pair(const struct query *q, ojeonbut_reply library, ojeonbut_reply plain)
+{
+    const ojeonbut_summary *s = of_library.summaries + MARGIN, *of_plain = of_baseline.summaries + MARGIN;
+    if (plain.outcome == OJEONBUT_NO_PAIR || library.outcome == OJEONBUT_NO_PAIR)
+        return difference(q, library, plain);
+    if (library.outcome != plain.outcome || library.number != plain.number)
+        return "outcome or number";
+    if (s[0].length + s[1].length != of_plain[0].length + of_plain[1].length)
+        return "total lengths";
+    const char *wrong = wrong_pair(q, &of_library);
+    if (!wrong)
+        wrong = wrong_pair(q, &of_baseline);
+    return wrong ? wrong : left_behind(q);
+}
+
+/* What the pairs of a row add up to. */
+struct pair_row {
+    uint32_t queries, agreed, found;
+    double library, plain; /* seconds */
+};
+
+/* Counts the query, and prints the first that differs. */
+static bool compare_pair(const struct query *q, ojeonbut_reply library, ojeonbut_reply plain)
+{
+    const char *what = other_pair(q, library, plain);
+    if (what && queries == agreed) {
+        printf("the first difference: pairs, library and plain C: %s\n  network %" PRIu32 " x %" PRIu32 ", start %" PRIu32 ", goal %" PRIu32 "\n", what, q->net->width,
+               q->net->height, q->leg.start, q->leg.goal);
+        print_results("library", q, library, &of_library);
+        print_results("plain C", q, plain, &of_baseline);
+    }
+    queries++;
+    agreed += !what;
+    return !what;
+}
+
+static void row_of_pairs(const char *name, const struct leg *legs, uint32_t count)
+{
+    struct pair_row row = {.queries = count};
+    for (uint32_t i = 0; i < count; i++) {
+        struct query q = {.net = &net, .leg = legs[i], .k = 2, .a = 0, .b = 1, .closed = none_closed, .pair = true};
+        ojeonbut_reply library, plain;
+        double library_first = timed(&library_search, &q, &of_library, &library), plain_first = timed(&suurballe_search, &q, &of_baseline, &plain);
+        row.agreed += compare_pair(&q, library, plain);
+        row.found += plain.outcome == OJEONBUT_FOUND;
+        row.library += settled(&library_search, &q, &of_library, library_first);
+        row.plain += settled(&suurballe_search, &q, &of_baseline, plain_first);
+    }
+    printf("%6" PRIu32 "  %-8s %4" PRIu32 " %7" PRIu32 " %12.3f %12.3f %8.2f %7" PRIu32 "\n", net.nodes, name, row.queries, row.agreed, row.library / row.queries * 1e3,
+           row.plain / row.queries * 1e3, row.library / row.plain, row.found);
+    fflush(stdout);
+}
+
+static void table_of_pairs(bool quick)
+{
+    printf("\nPair. Two routes with nothing in common, the legs of the via routes. Ratio: the library's time over that of the plain C (bench/suurballe.c), whose second search ends at\n"
+           "the goal. Agreed: by the total. Found: of how many legs there is a pair.\n"
+           " nodes  legs     legs  agreed   library ms     plain ms    ratio   found\n");
+    for (uint32_t side = 32; side <= (quick ? 32 : 64); side *= 2) {
+        struct leg corners[4], drawn[LEGS];
+        make(&net, side, side, LONGEST);
+        make_legs(side, corners, drawn);
+        row_of_pairs("corners", corners, quick ? 1 : 4);
+        row_of_pairs("drawn", drawn, quick ? QUICK_LEGS : LEGS);
     }
 }
 
@@ -728,6 +854,7 @@ static void work_ratios(void)
 }
 
 static void work_via(void) { answered = ask_via(&library_search, asked, &of_library); }
+static void work_pair(void) { answered = ask_pair(&library_search, asked, &of_library); }
 static void work_run(void) { answered.number = ojeonbut_run(net.table, net.bytes, second, net.bytes, net.nodes, 1, net.nodes / 2).bytes; }
 
 static uint8_t text[24 * (OJEONBUT_ARCS + 1)], table_again[OJEONBUT_ARCS * OJEONBUT_RECORD];
@@ -809,6 +936,19 @@ static void stack_of_via(uint32_t longest)
     queries++;
     agreed += !difference(&q, answered, svp);
     printf("  ojeonbut_query_via  %7zu  k = %d, 4/5, from corner to corner, lengths from 1 to %" PRIu32 "\n", bytes, OJEONBUT_ROUTES, longest);
+    fflush(stdout);
+}
+
+/* Of a pair from a corner to the opposite one. */
+static void stack_of_pair(uint32_t longest)
+{
+    make(&net, 64, 64, longest);
+    struct query q = {.net = &net, .leg = {0, net.nodes - 1}, .k = 2, .a = 0, .b = 1, .closed = none_closed, .pair = true};
+    asked = &q;
+    memset(&of_library, JUNK, sizeof of_library);
+    size_t bytes = stack_of(work_pair);
+    compare_pair(&q, answered, ask(&suurballe_search, &q, &of_baseline));
+    printf("  ojeonbut_pair       %7zu  from corner to corner, lengths from 1 to %" PRIu32 "\n", bytes, longest);
     fflush(stdout);
 }
 
@@ -1009,7 +1149,9 @@ static void table_of_stack(void)
     stack_of_query(1);
     stack_of_via(LONGEST);
     stack_of_via(1);
-    printf("Memory: %d bytes a label, lent by the caller: %d for room %d, %d for the greatest room. Of via routes %d bytes a node: %d for the most nodes.\n", OJEONBUT_LABEL,
+    stack_of_pair(LONGEST);
+    stack_of_pair(1);
+    printf("Memory: %d bytes a label, lent by the caller: %d for room %d, %d for the greatest room. Of via routes and a pair %d bytes a node: %d for the most nodes.\n", OJEONBUT_LABEL,
            ROOM * OJEONBUT_LABEL, ROOM, OJEONBUT_LABELS * OJEONBUT_LABEL, NODE_WORK, OJEONBUT_NODES * NODE_WORK);
 }
 
@@ -1031,6 +1173,7 @@ int main(int argc, char **argv)
     table_of_rows(quick);
     table_of_numbers(quick);
     table_of_via(quick);
+    table_of_pairs(quick);
     if (!quick) {
         table_of_growth();
         table_of_large(large);

@@ -17,7 +17,7 @@ extern "C" {
 #endif
 
 /* The version that this header declares; ojeonbut_version() gives the archive's. It goes up with every change that a caller can see: docs/CHANGES.md. */
-#define OJEONBUT_VERSION 7
+#define OJEONBUT_VERSION 8
 
 /* A road table: arc records of 16 bytes, little-endian: start node, end node, length, road number (bytes 12 to 15); 4 bytes each. Records stand in order of start node.
  * An arc's number is its record's, from 0; a node's is below the node count. Arcs that have one road number other than 0 are of one road, as both sides of a street are;
@@ -36,7 +36,7 @@ extern "C" {
 
 /* The outcomes. `number` is what stands beside each in ojeonbut_reply; where none is named it is 0. 12 is the desk program's, for malformed text: no call gives it. */
 enum ojeonbut_outcome {
-    OJEONBUT_FOUND = 0,     /* all k routes found; from ojeonbut_check: the table has no fault; from the calls for road files and for plans: done; number, from ojeonbut_plan_fetch: the routes */
+    OJEONBUT_FOUND = 0,     /* all k routes found; from ojeonbut_pair: the pair found; from ojeonbut_check: the table has no fault; from the calls for road files and for plans: done; number, from ojeonbut_plan_fetch: the routes */
     OJEONBUT_FEWER = 1,     /* fewer than k routes found, and no further one exists */
     OJEONBUT_NODE = 2,      /* a record names a node not below the node count; number: the record */
     OJEONBUT_LOOP = 3,      /* a record starts and ends at one node; number: the record */
@@ -46,7 +46,7 @@ enum ojeonbut_outcome {
     OJEONBUT_ENDS = 7,      /* start or goal not below the node count, or equal */
     OJEONBUT_WANTED = 8,    /* k outside 1 to 8 */
     OJEONBUT_THRESHOLD = 9, /* b outside 1 to 1,000, or a not below b */
-    OJEONBUT_BUFFERS = 10,  /* area under k * (nodes - 1) words, fewer than k summaries or ratios, over 65,535 whole labels, or working room under 64 bytes for each node; the area lent for a table or a text too short; a slot narrower than a route of the plan, or fewer words than its slots */
+    OJEONBUT_BUFFERS = 10,  /* area under k * (nodes - 1) words (k is 2 for a pair), fewer than k summaries or ratios, over 65,535 whole labels, or working room under 64 bytes for each node; the area lent for a table or a text too short; a slot narrower than a route of the plan, or fewer words than its slots */
     OJEONBUT_ROOM = 11,     /* a round needs more labels than were lent; number: the round, from 1 */
     OJEONBUT_SIZE = 13,     /* node count outside 1 to 4,096, table bytes not a multiple of 16, or over 16,384 records */
     OJEONBUT_FILE = 14,     /* a road file is malformed; number: its first line, from 1, that is none of the permitted ones, or the number a missing line would have */
@@ -56,6 +56,7 @@ enum ojeonbut_outcome {
     OJEONBUT_PLAN_THERE = 18, /* the plan is already there, on storing; it is absent, on fetching or withdrawing */
     OJEONBUT_PLAN_ROOM = 19, /* fewer free records than the plan needs */
     OJEONBUT_SECOND = 20,   /* a second table is not the first one's arcs in order of end node and then arc number */
+    OJEONBUT_NO_PAIR = 21,  /* no two routes from start to goal share no arc */
     OJEONBUT_NUMBERED = 27  /* a table to be written as a road file has a road number other than 0; number: the record, the lowest such */
 };
 
@@ -145,6 +146,20 @@ ojeonbut_reply ojeonbut_query_ratios(const uint8_t *table, size_t table_bytes, u
 ojeonbut_reply ojeonbut_query_via(const uint8_t *table, size_t table_bytes, const uint8_t *second, size_t second_bytes, uint32_t nodes, uint32_t start, uint32_t goal,
                                   uint32_t k, uint32_t a, uint32_t b, const uint8_t *closed, size_t closed_bytes, uint32_t *area, size_t area_words,
                                   ojeonbut_summary *summaries, size_t summary_count, uint8_t *work, size_t work_bytes);
+
+/* Two routes from start to goal with nothing in common: they share no arc number, and no two such routes have a lesser total length. Each visits no node twice; a node other
+ * than start and goal may stand on both. Road numbers are set aside: two arcs of one road are two arcs. Closures are those of ojeonbut_query_closed: both routes have open arcs
+ * only. The shortest route need not be one of the two. Which of several pairs of the same total comes out is left open; the total is not.
+ * Checks come in the order 13, the records (2 to 6), 15, 7, 10. 10 is: area under 2 * (nodes - 1) words, fewer than 2 summaries, or work_bytes below OJEONBUT_WORK * nodes.
+ * Then the outcome is 0, or 21 exactly where no two routes from start to goal share no arc.
+ *
+ * After a refusal of these checks (2 to 7, 10, 13 and 15) no byte of any buffer is changed. After 0 or 21:
+ *   area       two slots of nodes - 1 words, one after the other: the arc numbers of a route in order, then OJEONBUT_NONE. The first has the shorter route; of two equally long
+ *              ones that with the lower arc number where they first differ. After 21 all words of both are OJEONBUT_NONE. Words after the second slot are untouched.
+ *   summaries  the first two: length and arcs of each route, and label count 0; after 21 three zeros each. Summaries after the second are untouched.
+ *   work       every byte is zero, those past OJEONBUT_WORK * nodes too. What it holds at first does not matter. */
+ojeonbut_reply ojeonbut_pair(const uint8_t *table, size_t table_bytes, uint32_t nodes, uint32_t start, uint32_t goal, const uint8_t *closed, size_t closed_bytes,
+                             uint32_t *area, size_t area_words, ojeonbut_summary *summaries, size_t summary_count, uint8_t *work, size_t work_bytes);
 
 /* The run of one node, by direction: 0, where the records of the arcs that leave `node` stand in `table`; 1, where those of the arcs that come to it stand in `second`, by rising
  * arc number. The part's place is one in that table. { 0, 0 } for another direction, where the table has a fault (13 or 2 to 6), where the second table is not its arcs in order

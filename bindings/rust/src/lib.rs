@@ -3,7 +3,7 @@
 //! What that header asks of a caller, Rust's slices ensure: they are valid for their lengths, and a `&mut` one overlaps no other.
 
 /// The version of include/ojeonbut.h that these calls are for. Each call asks once that the archive linked is of it, and panics where it is not.
-pub const VERSION: u32 = 7;
+pub const VERSION: u32 = 8;
 
 /// Bytes of a record in a file of accepted plans.
 pub const PLAN_RECORD: usize = 32;
@@ -19,7 +19,7 @@ pub const NONE: u32 = u32::MAX;
 
 /// The outcomes, by number. What the number beside each says is in include/ojeonbut.h.
 pub mod outcome {
-    /// All k routes found; from `check`: the table has no fault; from the calls for road files and for plans: done.
+    /// All k routes found; from `pair`: the pair found; from `check`: the table has no fault; from the calls for road files and for plans: done.
     pub const FOUND: u32 = 0;
     /// Fewer than k routes found, and no further one exists.
     pub const FEWER: u32 = 1;
@@ -58,6 +58,8 @@ pub mod outcome {
     pub const PLAN_ROOM: u32 = 19;
     /// A second table is not the first one's arcs in order of end node and then arc number.
     pub const SECOND: u32 = 20;
+    /// No two routes from start to goal share no arc.
+    pub const NO_PAIR: u32 = 21;
     /// A table to be written as a road file has a road number other than 0; beside it stands the record.
     pub const NUMBERED: u32 = 27;
 }
@@ -182,6 +184,21 @@ mod raw {
             k: u32,
             a: u32,
             b: u32,
+            closed: *const u8,
+            closed_bytes: usize,
+            area: *mut u32,
+            area_words: usize,
+            summaries: *mut Summary,
+            summary_count: usize,
+            work: *mut u8,
+            work_bytes: usize,
+        ) -> Reply;
+        pub fn ojeonbut_pair(
+            table: *const u8,
+            table_bytes: usize,
+            nodes: u32,
+            start: u32,
+            goal: u32,
             closed: *const u8,
             closed_bytes: usize,
             area: *mut u32,
@@ -371,6 +388,30 @@ pub fn query_via(
             k,
             threshold.0,
             threshold.1,
+            closed.as_ptr(),
+            closed.len(),
+            area.as_mut_ptr(),
+            area.len(),
+            summaries.as_mut_ptr(),
+            summaries.len(),
+            work.as_mut_ptr(),
+            work.len(),
+        )
+    }
+}
+
+/// Two routes that share no arc, of least total length, while roads are closed: `work` has at least `WORK` bytes for each node.
+#[allow(clippy::too_many_arguments)]
+pub fn pair(table: &[u8], nodes: u32, start: u32, goal: u32, closed: &[u8], area: &mut [u32], summaries: &mut [Summary], work: &mut [u8]) -> Reply {
+    ask_version();
+    // SAFETY: each slice is valid for its length; the three that are written are borrowed mutably, so they overlap nothing.
+    unsafe {
+        raw::ojeonbut_pair(
+            table.as_ptr(),
+            table.len(),
+            nodes,
+            start,
+            goal,
             closed.as_ptr(),
             closed.len(),
             area.as_mut_ptr(),

@@ -1,5 +1,5 @@
 //! The scope's example through the safe calls.
-use ojeonbut::{arcs_from, check, next_arc, outcome, plan_collect, plan_fetch, plan_store, plan_withdraw, query, query_closed, query_ratios, query_via, read_roads, run, version, write_roads};
+use ojeonbut::{arcs_from, check, next_arc, outcome, pair, plan_collect, plan_fetch, plan_store, plan_withdraw, query, query_closed, query_ratios, query_via, read_roads, run, version, write_roads};
 use ojeonbut::{Direction, Made, Ratios, Reply, Summary, NONE, PLAN_RECORD, PLAN_WIDTH, VERSION, WORK};
 
 fn table() -> Vec<u8> {
@@ -84,6 +84,31 @@ fn via_routes() {
     assert_eq!(area, [0, 3, NONE, 0, 2, 4, NONE, NONE, NONE, 7]);
     let rows: Vec<_> = summaries.iter().map(|s| (s.length, s.arcs, s.labels)).collect();
     assert_eq!(rows, [(4, 2, 0), (5, 3, 0), (0, 0, 0), (7, 7, 7)]);
+    assert!(work.iter().all(|&b| b == 0));
+}
+
+#[test]
+fn pairs() {
+    // the first route, arcs 0, 2 and 4, shares an arc with every other
+    let arcs: [[u32; 4]; 5] = [[0, 1, 1, 0], [0, 2, 3, 0], [1, 2, 1, 0], [1, 3, 3, 0], [2, 3, 1, 0]];
+    let table: Vec<u8> = arcs.iter().flatten().flat_map(|v| v.to_le_bytes()).collect();
+    let mut area = [7u32; 7];
+    let mut summaries = [Summary { length: 7, arcs: 7, labels: 7 }; 3];
+    let mut work = [85u8; 4 * WORK + 5];
+    assert_eq!(pair(&table, 4, 3, 3, &[0; 5], &mut area, &mut summaries, &mut work), reply(outcome::ENDS, 0));
+    assert_eq!(pair(&table, 4, 0, 3, &[0; 4], &mut area, &mut summaries, &mut work), reply(outcome::CLOSURES, 0));
+    assert_eq!(pair(&table, 4, 0, 3, &[0; 5], &mut area[..5], &mut summaries, &mut work), reply(outcome::BUFFERS, 0));
+    assert_eq!(pair(&table, 4, 0, 3, &[0; 5], &mut area, &mut summaries[..1], &mut work), reply(outcome::BUFFERS, 0));
+    assert_eq!(pair(&table, 4, 0, 3, &[0; 5], &mut area, &mut summaries, &mut work[..4 * WORK - 1]), reply(outcome::BUFFERS, 0));
+    assert!(work.iter().all(|&b| b == 85) && area == [7; 7] && summaries.iter().all(|s| s.length == 7));
+    assert_eq!(pair(&table, 4, 0, 3, &[0; 5], &mut area, &mut summaries, &mut work), reply(outcome::FOUND, 0));
+    assert_eq!(area, [0, 3, NONE, 1, 4, NONE, 7]);
+    assert_eq!(summaries.map(|s| (s.length, s.arcs, s.labels)), [(4, 2, 0), (4, 2, 0), (7, 7, 7)]);
+    assert!(work.iter().all(|&b| b == 0));
+    work.fill(85);
+    assert_eq!(pair(&table, 4, 0, 3, &[0, 0, 0, 1, 0], &mut area, &mut summaries, &mut work), reply(outcome::NO_PAIR, 0));
+    assert_eq!(area, [NONE, NONE, NONE, NONE, NONE, NONE, 7]);
+    assert_eq!(summaries.map(|s| (s.length, s.arcs, s.labels)), [(0, 0, 0), (0, 0, 0), (7, 7, 7)]);
     assert!(work.iter().all(|&b| b == 0));
 }
 

@@ -16,6 +16,7 @@ use Rattle.query_rounds.proofs.Got as G
 use Rattle.query_rounds.proofs.Got.Laws as G′
 use Rattle.query.specs.Query.{Input, Replied, Cored}
 use Rattle.query_via.specs.Via as Via
+use Rattle.query_pair.specs.Pair as Pair
 
 abbrev pub mach : Got → Val
 mach g = LL.tuple-val G.the-type G′.the-laws (G.the-type .to g)
@@ -43,3 +44,7 @@ replied i g xs us ys zs said e = record { told = said .told; labels = said .labe
 -- and those of a query for via routes
 pub replied-via : (i : Via.Input) (g : Got) (us ws : List ℕ) (ys zs : List Summary) → Via.Cored i g us ws → zs ≡ written (g .sums) (g .n) ys → Via.Replied i (g .told) us ws ys zs
 replied-via i g us ws ys zs said e = record { told = said .told; area = said .area; work = said .work; sums = e ∙ said .sums ys }
+
+-- and those of a call for a pair
+pub replied-pair : (i : Pair.Input) (g : Got) (us ws : List ℕ) (ys zs : List Summary) → Pair.Cored i g us ws → zs ≡ written (g .sums) (g .n) ys → Pair.Replied i (g .told) us ws ys zs
+replied-pair i g us ws ys zs said e = record { told = said .told; work = said .work; routes = said .routes; right = said .right; area = said .area; sums = e ∙ said .sums ys }

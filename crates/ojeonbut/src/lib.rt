@@ -11,6 +11,7 @@ ghost use Rattle.query.specs.Query.{input, inputClosed, Replied};
 ghost use Rattle.query_ratios.specs.Rated.{RepliedRatios};
 ghost use Rattle.second.specs.Second.{wrongSecond};
 ghost use Rattle.query_via.specs.Via.{input as inputVia, Replied as RepliedVia};
+ghost use Rattle.query_pair.specs.Pair.{input as inputPair, Replied as RepliedPair};
 ghost use Rattle.plan_store.specs.Store.{Stored};
 ghost use Rattle.plan_fetch.specs.Fetch.{Fetched};
 ghost use Rattle.plan_change.specs.Change.{Withdrawn, Collected};
@@ -20,7 +21,7 @@ ghost use Rattle.ojeonbut.specs.Exported.{version, runPart, partOf, comi
 ghost use Rattle.ojeonbut.specs.Exported.{runPartBy, numbersOf, Numbered};
 
 // OJEONBUT_VERSION of include/ojeonbut.h.
-const VERSION: u32 = 7;
+const VERSION: u32 = 8;
 
 // The directions of ojeonbut_run: the arcs that leave a node, and those that come to it.
 const LEAVING: u32 = 0;
@@ -283,6 +284,31 @@ pub extern "C" fn ojeonbut_query_via(
         lent,
         work,
     );
+    let x = g.sums;
+    let n = g.n;
+    summary::write(sums, x, n);
+    g.told
+}
+
+// Two routes over the open arcs that share no arc, of least total length; `work` is the working
+// room.
+#[no_mangle]
+pub extern "C" fn ojeonbut_pair(
+    table: &[u8],
+    nodes: u32,
+    s: u32,
+    goal: u32,
+    closed: &[u8],
+    area: &mut [u32],
+    sums: &mut [summary::Summary],
+    work: &mut [u8],
+) -> Told
+    ensures { λ r. ⌜ RepliedPair (inputPair (now (table .entry)) nodes s goal (now (closed .entry))
+        (now (area .entry)) (length (now (sums .entry))) (now (work .entry))) r
+        (now (area .exit)) (now (work .exit)) (now (sums .entry)) (now (sums .exit)) ⌝ }
+{
+    let lent = sums.len();
+    let g = query_pair::core(table, nodes, s, goal, closed, area, lent, work);
     let x = g.sums;
     let n = g.n;
     summary::write(sums, x, n);

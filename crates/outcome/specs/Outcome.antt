@@ -85,6 +85,10 @@ planRoom = 19
 abbrev pub secondTable : ℕ
 secondTable = 20
 
+-- "no pair" (02.10)
+abbrev pub noPair : ℕ
+noPair = 21
+
 -- "the writer meets a road number that isn't zero, with the lowest such record" (02.5)
 abbrev pub numbered : ℕ
 numbered = 27

@@ -49,6 +49,8 @@ pub const PLAN_ROOM: u32 = 19;
 
 pub const SECOND: u32 = 20;
 
+pub const NO_PAIR: u32 = 21;
+
 pub const NUMBERED: u32 = 27;
 
 // An outcome beside which no number is named.

@@ -3,3 +3,4 @@ pub mod SumsLaws
 pub mod ProgressLaws
 pub mod FinishLaws
 pub mod RoundsLaws
+pub mod SlotLaws

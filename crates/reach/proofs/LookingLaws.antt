@@ -18,7 +18,7 @@ use Rattle.node_queue.specs.Queue.{keyAt, KeySet}
 use Rattle.reach.specs.declared.Stand.{Stand}
 use Rattle.reach.specs.Stand.{Stands, distIn, keyIn, doneIn, lastIn}
 use Rattle.reach.specs.Steps.{Begun, Lowered, Looked}
-use Rattle.reach.specs.Turn.{Waiting, Ready, Since, Turn, Over}
+use Rattle.reach.specs.Turn.{Waiting, Ready, Since, Turning, Turn, Over}
 use Rattle.reach.proofs.StandLaws.{else-same, else-trans, else-queue, queue-dist, queue-last}
 
 -- ---- a node's distance and key, and those of a number past the nodes
@@ -138,14 +138,13 @@ module _ (net : Net) (s : ℕ) (x : Stand) (l : List ℕ) (root : ℕ) (r : Read
           (subst (λ (p : ℕ → ℕ). Search net s (x .far) (doneIn x (net .nodes) m) (distIn x (net .nodes) l) p (distIn x (net .nodes) l root) (λ a. arc (net .arcs) a .from ≡ root))
           (sym (fun-ext (queue-last x (r .looking .stands) (k .within)))) settled)
 
-      pub turn-begin : (d : ℕ) → d ≡ longAt (x .dist) l root → Turn net s x l m first root d 0
-      turn-begin d e =
+      pub turning-begin : (d : ℕ) → d ≡ longAt (x .dist) l root → Turning net s x l m first root d (λ a. arc (net .arcs) a .from ≡ root)
+      turning-begin d e =
           record {
             looking = record {
               stands = r .looking .stands;
               queue = k .queue;
-              search = search-fewer net s (x .far) (doneIn x (net .nodes) m) (distIn x (net .nodes) m) (lastIn x m) d (λ a. arc (net .arcs) a .from ≡ root) (Waiting net root 0)
-                  (subst (λ y. Search net s (x .far) (doneIn x (net .nodes) m) (distIn x (net .nodes) m) (lastIn x m) y (λ a. arc (net .arcs) a .from ≡ root)) level-is moved) (λ a o n w. n (w, omega arith));
+              search = subst (λ y. Search net s (x .far) (doneIn x (net .nodes) m) (distIn x (net .nodes) m) (lastIn x m) y (λ a. arc (net .arcs) a .from ≡ root)) level-is moved;
               keys = λ v w. keys v w (ℕ-discrete v root);
             };
             since = record { elsewhere = else-queue x (k .within); stays = λ v t. stays v t (ℕ-discrete v root) };
@@ -167,25 +166,24 @@ module _ (net : Net) (s : ℕ) (x : Stand) (l : List ℕ) (root : ℕ) (r : Read
 
 -- ---- a node's turn
 
-module _ (net : Net) (s : ℕ) (x : Stand) (l m : List ℕ) (root u d a : ℕ) (t : Turn net s x l m root u d a) where
+module _ (net : Net) (s : ℕ) (x : Stand) (l m : List ℕ) (root u d : ℕ) (Pending : ℕ → Type 0) (t : Turning net s x l m root u d Pending) where
   -- seen from here on
-  pub turn-anew : Turn net s x m m root u d a
-  turn-anew =
+  pub turning-anew : Turning net s x m m root u d Pending
+  turning-anew =
       record { looking = t .looking; since = record { elsewhere = else-same x m; stays = λ v y. y }; is-done = t .is-done; is-level = t .is-level }
 
   -- there is room for one arc more
-  pub turn-far : d ≤ 4611686018427387904
-  turn-far = omega (arith, t .looking .search .most u, t .is-level, t .looking .stands .far-most)
+  pub turning-far : d ≤ 4611686018427387904
+  turning-far = omega (arith, t .looking .search .most u, t .is-level, t .looking .stands .far-most)
 
-  -- on to a later arc, if none that may be used leaves u in between
-  pub turn-skip : (b : ℕ) → ((e : ℕ) → Open net e → arc (net .arcs) e .from ≡ u → a ≤ e → e < b → ⊥) → Turn net s x l m root u d b
-  turn-skip b none =
+  -- others are pending, if none that may be used is pending and not among them
+  pub turning-fewer : (Pending′ : ℕ → Type 0) → ((e : ℕ) → Open net e → (Pending′ e → ⊥) → Pending e → ⊥) → Turning net s x l m root u d Pending′
+  turning-fewer Pending′ none =
       record {
         looking = record {
           stands = t .looking .stands;
           queue = t .looking .queue;
-          search = search-fewer net s (x .far) (doneIn x (net .nodes) m) (distIn x (net .nodes) m) (lastIn x m) d (Waiting net u a) (Waiting net u b) (t .looking .search)
-              (λ e o f w. ⊎-elim (λ h. f (w .0, h)) (λ h. none e o (w .0) (w .1) h) (order b e));
+          search = search-fewer net s (x .far) (doneIn x (net .nodes) m) (distIn x (net .nodes) m) (lastIn x m) d Pending Pending′ (t .looking .search) none;
           keys = t .looking .keys;
         };
         since = t .since;
@@ -193,16 +191,16 @@ module _ (net : Net) (s : ℕ) (x : Stand) (l m : List ℕ) (root u d a : ℕ) (
         is-level = t .is-level;
       }
 
-  -- its end, if none that may be used leaves u from here on
-  pub turn-over : ((e : ℕ) → Open net e → arc (net .arcs) e .from ≡ u → a ≤ e → ⊥) → Over net s x l m root u
-  turn-over none =
+  -- its end, if none that may be used is pending
+  pub turning-over : ((e : ℕ) → Open net e → Pending e → ⊥) → Over net s x l m root u
+  turning-over none =
       record {
         ready = record {
           level = d;
           looking = record {
             stands = t .looking .stands;
             queue = t .looking .queue;
-            search = search-looked net s (x .far) (doneIn x (net .nodes) m) (distIn x (net .nodes) m) (lastIn x m) d (Waiting net u a) (t .looking .search) (λ e o w. none e o (w .0) (w .1));
+            search = search-looked net s (x .far) (doneIn x (net .nodes) m) (distIn x (net .nodes) m) (lastIn x m) d Pending (t .looking .search) none;
             keys = t .looking .keys;
           };
         };
@@ -210,21 +208,21 @@ module _ (net : Net) (s : ℕ) (x : Stand) (l m : List ℕ) (root u d a : ℕ) (
         is-done = t .is-done;
       }
 
-  -- one arc looked at, number b; those from number z on are yet to be looked at then
-  module _ (b z : ℕ) (rest : (e : ℕ) → (e ≡ b → ⊥) → (Waiting net u z e → ⊥) → Waiting net u a e → ⊥) (o : Open net b) (starts : arc (net .arcs) b .from ≡ u) where
+  -- one arc looked at, number b; the others that were pending are still
+  module _ (b : ℕ) (Pending′ : ℕ → Type 0) (rest : (e : ℕ) → (e ≡ b → ⊥) → (Pending′ e → ⊥) → Pending e → ⊥) (o : Open net b) (starts : arc (net .arcs) b .from ≡ u) where
     from-done : T (doneIn x (net .nodes) m (arc (net .arcs) b .from))
     from-done = subst (λ y. T (doneIn x (net .nodes) m y)) (sym starts) (t .is-done)
 
     from-level : distIn x (net .nodes) m (arc (net .arcs) b .from) ≡ d
     from-level = ap (distIn x (net .nodes) m) starts ∙ t .is-level
 
-    turn-keep : distIn x (net .nodes) m (arc (net .arcs) b .to) ≤ d + arc (net .arcs) b .len → Turn net s x l m root u d z
+    turn-keep : distIn x (net .nodes) m (arc (net .arcs) b .to) ≤ d + arc (net .arcs) b .len → Turning net s x l m root u d Pending′
     turn-keep h =
         record {
           looking = record {
             stands = t .looking .stands;
             queue = t .looking .queue;
-            search = search-keep net s (x .far) (doneIn x (net .nodes) m) (distIn x (net .nodes) m) (lastIn x m) d (Waiting net u a) (Waiting net u z) (t .looking .search) b o from-done from-level rest
+            search = search-keep net s (x .far) (doneIn x (net .nodes) m) (distIn x (net .nodes) m) (lastIn x m) d Pending Pending′ (t .looking .search) b o from-done from-level rest
                 (omega (arith, from-level));
             keys = t .looking .keys;
           };
@@ -266,14 +264,14 @@ module _ (net : Net) (s : ℕ) (x : Stand) (l m : List ℕ) (root u d a : ℕ) (
       not-w : (v : ℕ) → (v ≡ arc (net .arcs) b .to → ⊥) → v ≢ w
       not-w v ne e = ne (e ∙ sym ends)
 
-      turn-lower : Turn net s x l m′ r u d z
+      turn-lower : Turning net s x l m′ r u d Pending′
       turn-lower =
           record {
             looking = record {
               stands = t .looking .stands;
               queue = k .queue;
-              search = search-same net s (x .far) (doneIn x (net .nodes) m) (doneIn x (net .nodes) m′) (distIn x (net .nodes) m′) (lastIn x m′) d (Waiting net u z) done-same
-                  (search-lower net s (x .far) (doneIn x (net .nodes) m) (distIn x (net .nodes) m) (lastIn x m) d (Waiting net u a) (Waiting net u z) (t .looking .search) b o from-done from-level rest
+              search = search-same net s (x .far) (doneIn x (net .nodes) m) (doneIn x (net .nodes) m′) (distIn x (net .nodes) m′) (lastIn x m′) d Pending′ done-same
+                  (search-lower net s (x .far) (doneIn x (net .nodes) m) (distIn x (net .nodes) m) (lastIn x m) d Pending Pending′ (t .looking .search) b o from-done from-level rest
                   (omega (arith, from-level, ap (distIn x (net .nodes) m) ends, dist-node x (net .nodes) m w h)) (distIn x (net .nodes) m′) (lastIn x m′)
                   (omega (arith, ap (distIn x (net .nodes) m′) ends, new-dist, from-level)) (λ v ne. old-dist v (not-w v ne))
                   (ap (lastIn x m′) ends ∙ k .last-new) (λ v ne. k .lasts v (not-w v ne)));
@@ -293,20 +291,44 @@ module _ (net : Net) (s : ℕ) (x : Stand) (l m : List ℕ) (root u d a : ℕ) (
           keys v y (no ne) =
               ⊎-elim (λ c. inl (k .keys v y ne ∙ c ∙ sym (old-dist v ne))) (λ c. inr (k .keys v y ne ∙ c .0, omega (arith, c .1, old-dist v ne))) (t .looking .keys v y)
 
-    look-at : (w : ℕ) → arc (net .arcs) b .to ≡ w → w < net .nodes → (c : ℕ) → c ≡ d + arc (net .arcs) b .len → (m′ : List ℕ) (r : ℕ) → Looked x (net .nodes) m root w b c m′ r → Turn net s x l m′ r u d z
-    look-at w ends h c ec m′ r (inl k) =
-        subst (λ (y : List ℕ). Turn net s x l y r u d z) (sym (k .1))
-        (subst (λ y. Turn net s x l m y u d z) (sym (k .2)) (turn-keep (omega (arith, k .0, ec, ap (distIn x (net .nodes) m) ends, dist-node x (net .nodes) m w h))))
-    look-at w ends h c ec m′ r (inr k) =
+    pub turning-look : (w : ℕ) → arc (net .arcs) b .to ≡ w → w < net .nodes → (c : ℕ) → c ≡ d + arc (net .arcs) b .len → (m′ : List ℕ) (r : ℕ) → Looked x (net .nodes) m root w b c m′ r → Turning net s x l m′ r u d Pending′
+    turning-look w ends h c ec m′ r (inl k) =
+        subst (λ (y : List ℕ). Turning net s x l y r u d Pending′) (sym (k .1))
+        (subst (λ y. Turning net s x l m y u d Pending′) (sym (k .2)) (turn-keep (omega (arith, k .0, ec, ap (distIn x (net .nodes) m) ends, dist-node x (net .nodes) m w h))))
+    turning-look w ends h c ec m′ r (inr k) =
         turn-lower w ends h m′ r (omega (arith, k .0, ec)) (subst (λ y. Lowered x (net .nodes) m w b y m′ r) ec (k .1))
+
+-- the arcs of u from number a on are pending
+module _ (net : Net) (s : ℕ) (x : Stand) (l m : List ℕ) (root u d a : ℕ) (t : Turn net s x l m root u d a) where
+  pub turn-anew : Turn net s x m m root u d a
+  turn-anew = turning-anew net s x l m root u d (Waiting net u a) t
+
+  pub turn-far : d ≤ 4611686018427387904
+  turn-far = turning-far net s x l m root u d (Waiting net u a) t
+
+  -- on to a later arc, if none that may be used leaves u in between
+  pub turn-skip : (b : ℕ) → ((e : ℕ) → Open net e → arc (net .arcs) e .from ≡ u → a ≤ e → e < b → ⊥) → Turn net s x l m root u d b
+  turn-skip b none =
+      turning-fewer net s x l m root u d (Waiting net u a) t (Waiting net u b)
+      (λ e o f w. ⊎-elim (λ h. f (w .0, h)) (λ h. none e o (w .0) (w .1) h) (order b e))
+
+  -- its end, if none that may be used leaves u from here on
+  pub turn-over : ((e : ℕ) → Open net e → arc (net .arcs) e .from ≡ u → a ≤ e → ⊥) → Over net s x l m root u
+  turn-over none = turning-over net s x l m root u d (Waiting net u a) t (λ e o w. none e o (w .0) (w .1))
 
   -- the next one
   pub turn-look : Open net a → arc (net .arcs) a .from ≡ u → (w : ℕ) → arc (net .arcs) a .to ≡ w → w < net .nodes → (c : ℕ) → c ≡ d + arc (net .arcs) a .len → (m′ : List ℕ) (r : ℕ) → Looked x (net .nodes) m root w a c m′ r → Turn net s x l m′ r u d (a + 1)
-  turn-look = look-at a (a + 1) (λ e ne f w. f (w .0, omega arith))
+  turn-look = turning-look net s x l m root u d (Waiting net u a) t a (Waiting net u (a + 1)) (λ e ne f w. f (w .0, omega arith))
 
   -- any one, which may be looked at again
   pub turn-again : (b : ℕ) → Open net b → arc (net .arcs) b .from ≡ u → (w : ℕ) → arc (net .arcs) b .to ≡ w → w < net .nodes → (c : ℕ) → c ≡ d + arc (net .arcs) b .len → (m′ : List ℕ) (r : ℕ) → Looked x (net .nodes) m root w b c m′ r → Turn net s x l m′ r u d a
-  turn-again b = look-at b a (λ e ne f w. f w)
+  turn-again b = turning-look net s x l m root u d (Waiting net u a) t b (Waiting net u a) (λ e ne f w. f w)
+
+-- as it begins: all of them
+pub turn-begin : (net : Net) (s : ℕ) (x : Stand) (l : List ℕ) (root : ℕ) (r : Ready net s x l root) → keyAt l root < x .far → (m : List ℕ) (first : ℕ) → KeySet (net .nodes) l root (x .far) m first
+    → (d : ℕ) → d ≡ longAt (x .dist) l root → Turn net s x l m first root d 0
+turn-begin net s x l root r near m first k d e =
+    turning-fewer net s x l m first root d (λ a. arc (net .arcs) a .from ≡ root) (turning-begin net s x l root r near m first k d e) (Waiting net root 0) (λ a o n w. n (w, omega arith))
 
 -- the end of a turn, seen from its beginning
 pub over-since : (net : Net) (s : ℕ) (x : Stand) (l m m′ : List ℕ) (root u : ℕ) → Since net x l m → Over net s x m m′ root u → Over net s x l m′ root u
@@ -348,7 +370,12 @@ module _ (f g : ℕ → Bool) (stays : (v : ℕ) → T (f v) → T (g v)) where
       (λ w. omega (arith, left-less u n w p q, left-one n (f n) (g n) refl refl))
       (order n u)
 
+-- the first of the queue is done since, and what was done still is
+pub since-less : (net : Net) (s : ℕ) (x : Stand) (l m : List ℕ) (root : ℕ) → Ready net s x l root → keyAt l root < x .far → Since net x l m → T (doneIn x (net .nodes) m root)
+    → left (doneIn x (net .nodes) m) (net .nodes) < left (doneIn x (net .nodes) l) (net .nodes)
+since-less net s x l m root r near since done =
+    left-less (doneIn x (net .nodes) l) (doneIn x (net .nodes) m) (since .stays) root (net .nodes) (r .looking .queue .root .used) (root-open net s x l root r near) done
+
 pub over-less : (net : Net) (s : ℕ) (x : Stand) (l m : List ℕ) (root first : ℕ) → Ready net s x l root → keyAt l root < x .far → Over net s x l m first root
     → left (doneIn x (net .nodes) m) (net .nodes) < left (doneIn x (net .nodes) l) (net .nodes)
-over-less net s x l m root first r near o =
-    left-less (doneIn x (net .nodes) l) (doneIn x (net .nodes) m) (o .since .stays) root (net .nodes) (r .looking .queue .root .used) (root-open net s x l root r near) (o .is-done)
+over-less net s x l m root first r near o = since-less net s x l m root r near (o .since) (o .is-done)

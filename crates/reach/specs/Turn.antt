@@ -23,12 +23,16 @@ pub record Since (net : Net) (x : Stand) (l m : List ℕ) : Type 0 where
   pub elsewhere : Elsewhere x l m
   pub stays : (v : ℕ) → T (doneIn x (net .nodes) l v) → T (doneIn x (net .nodes) m v)
 
--- The turn of node u at distance d, which began when the room was l: the arcs from number a on are yet to be looked at.
-pub record Turn (net : Net) (s : ℕ) (x : Stand) (l m : List ℕ) (root u d a : ℕ) : Type 0 where
-  pub looking : Looking net s x m root d (Waiting net u a)
+-- The turn of node u at distance d, which began when the room was l: the arcs that are pending are yet to be looked at.
+pub record Turning (net : Net) (s : ℕ) (x : Stand) (l m : List ℕ) (root u d : ℕ) (Pending : ℕ → Type 0) : Type 0 where
+  pub looking : Looking net s x m root d Pending
   pub since : Since net x l m
   pub is-done : T (doneIn x (net .nodes) m u)
   pub is-level : distIn x (net .nodes) m u ≡ d
+
+-- Those from number a on are.
+abbrev pub Turn : Net → ℕ → Stand → List ℕ → List ℕ → ℕ → ℕ → ℕ → ℕ → Type 0
+Turn net s x l m root u d a = Turning net s x l m root u d (Waiting net u a)
 
 -- The turn of u is over.
 pub record Over (net : Net) (s : ℕ) (x : Stand) (l m : List ℕ) (root u : ℕ) : Type 0 where

@@ -1,6 +1,5 @@
 pub mod NodesLaws
 pub mod KeptLaws
-pub mod SlotLaws
 pub mod BesideLaws
 pub mod CandidatesLaws
 pub mod TurnLaws

@@ -3,7 +3,7 @@ use native.Mathlib.Omega.{arith}
 use borrow.Author.Needs.{needs}
 use Rattle.search_ask.specs.Ask.{netFor, width}
 use Rattle.via_chains.specs.Chains.{joinedIn}
-use Rattle.via_rounds.proofs.SlotLaws.{slot-lent, slot-put}
+use Rattle.query_rounds.proofs.SlotLaws.{slot-lent, slot-put}
 use Rattle.via_rounds.proofs.put.Statement.{statement}
 use Rattle.via_rounds.proofs.put.Tie as tie
 

@@ -18,7 +18,7 @@ use Rattle.search_ask.specs.Ask.{queryFor, netFor, width}
 use Rattle.via_chains.specs.Chains.{joinedIn}
 use Rattle.via_rounds.specs.Turn.{Left}
 use Rattle.via_rounds.proofs.CandidatesLaws.{read-near, candidate-length, candidate-arcs}
-use Rattle.via_rounds.proofs.SlotLaws.{slot-again}
+use Rattle.query_rounds.proofs.SlotLaws.{slot-again}
 use Rattle.via_rounds.proofs.LeftLaws.{record-in, left-queue, not-last, sums-same}
 use Rattle.via_rounds.proofs.step.Statement.{statement}
 use Rattle.via_rounds.proofs.step.Tie as tie

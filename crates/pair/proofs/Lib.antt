@@ -1,0 +1,14 @@
+pub mod Sums
+pub mod Walks
+pub mod Lower
+pub mod Upper
+pub mod Extract
+pub mod Least
+pub mod Two
+pub mod Marked
+pub mod Total
+pub mod Whole
+pub mod Steps
+pub mod Around
+pub mod Walking
+pub mod Figures

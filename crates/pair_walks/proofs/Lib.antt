@@ -1,0 +1,4 @@
+pub mod NumbersLaws
+pub mod FollowLaws
+pub mod SlotsLaws
+pub mod PairLaws
