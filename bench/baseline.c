@@ -30,7 +30,7 @@ struct search {
     const uint8_t *closed; /* a byte for each arc, or NULL where none is closed */
     uint32_t *first;  /* the first arc of each node, and the number of arcs after the last node */
     uint32_t *newest; /* the label last made at each node, or OJEONBUT_NONE */
-    uint8_t *driven;  /* for each arc, bit p is set if earlier route p drives its road */
+    uint16_t *driven; /* for each arc, bit p is set if earlier route p drives its road */
     struct label *made;
     size_t count, room;
     struct candidate *heap; /* places from 1; none precedes the one at half its place */
@@ -203,7 +203,7 @@ ojeonbut_reply baseline_query_closed(const uint8_t *table, size_t table_bytes, u
     struct search s = {.table = table, .closed = closed, .made = (struct label *)labels, .room = label_bytes / OJEONBUT_LABEL, .a = a, .b = b};
     s.first = memory(NULL, (nodes + 1 + nodes) * sizeof *s.first);
     s.newest = s.first + nodes + 1;
-    s.driven = memset(memory(NULL, arcs + 1), 0, arcs + 1);
+    s.driven = memset(memory(NULL, (arcs + 1) * sizeof *s.driven), 0, (arcs + 1) * sizeof *s.driven);
     for (uint32_t node = 0, arc = 0; node <= nodes; s.first[node++] = arc)
         while (arc < arcs && word(table, arc, 0) < node)
             arc++;

@@ -549,7 +549,7 @@ static double clearing_ms(void)
 
 static void table_of_growth(void)
 {
-    static const struct size sizes[] = {{8, 8, 3}, {16, 8, 3}, {16, 16, 3}, {32, 16, 3}, {32, 32, 3}, {64, 32, 2}, {64, 64, 1}};
+    static const struct size sizes[] = {{8, 8, 3}, {16, 8, 3}, {16, 16, 3}, {32, 16, 3}, {32, 32, 3}, {64, 32, 2}, {64, 64, 1}, {128, 64, 1}, {128, 128, 1}, {256, 128, 1}, {256, 256, 1}};
     printf("\nGrowth. Legs across the network, from a corner to the opposite one; room for %d labels. Labels: the mean of a query, all rounds. The power is the\n"
            "slope of the least-squares line through the logarithms of the rows' labels and times. The library's time holds the clearing of all labels lent, which memset\n"
            "does in %.3f ms; the baselines leave them as they are. Of a row that would take over %d seconds the library is left out.\n"
@@ -557,6 +557,34 @@ static void table_of_growth(void)
            OJEONBUT_LABELS, clearing_ms(), LONG);
     growth(sizes, sizeof sizes / sizeof *sizes, 1, 1, 2);
     growth(sizes, sizeof sizes / sizeof *sizes, 2, 1, 2);
+}
+
+static void make_region(void)
+{
+    network_region(&net, LONGEST, SEED);
+    check(&net);
+}
+
+/* The greatest table there may be, with as many labels as there may be. */
+static void table_of_region(void)
+{
+    static const uint32_t blocks[] = {4, 16, 64, 255};
+    make_region();
+    printf("\nThe greatest table: %" PRIu32 " nodes and %zu arcs. Legs of so many blocks each way, 1/2, room for %d labels; labels: the mean of a query, all rounds.\n"
+           " nodes   arcs  k  blocks legs   labels" TIMES,
+           net.nodes, net.bytes / OJEONBUT_RECORD, OJEONBUT_LABELS);
+    for (size_t i = 0; i < sizeof blocks / sizeof *blocks; i++)
+        for (uint32_t k = 2; k <= 4; k++) {
+            struct query q = {.net = &net, .k = k, .a = 1, .b = 2, .room = OJEONBUT_LABELS};
+            struct row row = {0};
+            uint64_t seed = net.nodes;
+            for (uint32_t leg = 0; leg < QUICK_LEGS; leg++) {
+                q.leg = network_leg(&net, blocks[i], blocks[i], &seed);
+                measure(&q, &row);
+            }
+            printf("%6" PRIu32 " %6zu %2" PRIu32 "  %6" PRIu32 " %4" PRIu32 " %8.1f", net.nodes, net.bytes / OJEONBUT_RECORD, k, blocks[i], row.queries, (double)row.labels / row.queries);
+            print_times(&row);
+        }
 }
 
 static void row_of_large(const char *name, const struct query *q, bool with_library)
@@ -682,8 +710,13 @@ static void table_of_via(bool quick)
            "how many percent of the exact one the via one is longer, the mean.\n"
            " nodes  k  legs     legs  agreed   library ms     plain ms    ratio   found  exact 11   both  longer %%\n",
            OJEONBUT_LABELS);
-    for (uint32_t side = 32; side <= (quick ? 32 : 64); side *= 2) {
-        make(&net, side, side, LONGEST);
+    static const uint32_t sides[] = {32, 64, 256};
+    for (int n = 0; n < (quick ? 1 : 3); n++) {
+        uint32_t side = sides[n];
+        if (side == 256)
+            make_region();
+        else
+            make(&net, side, side, LONGEST);
         svp_second(net.table, net.bytes, net.nodes, second);
         struct leg corners[4], drawn[LEGS];
         make_legs(side, corners, drawn);
@@ -903,8 +936,8 @@ static size_t stack_of(void (*w)(void))
 
 static void stack_of_query(uint32_t longest)
 {
-    uint64_t seed = 2; /* of a leg with few labels: eight rounds take long */
-    make(&net, 64, 64, longest);
+    uint64_t seed = 2; /* of a leg with few labels: twelve rounds take long */
+    make(&net, 256, 256, longest);
     struct query q = {.net = &net, .leg = network_leg(&net, 2, 2, &seed), .k = OJEONBUT_ROUTES, .a = 4, .b = 5, .room = ROOM};
     asked = &q;
     memset(&of_library, JUNK, sizeof of_library);
@@ -926,7 +959,7 @@ static void stack_of_query(uint32_t longest)
 /* Of via routes from a corner to the opposite one. */
 static void stack_of_via(uint32_t longest)
 {
-    make(&net, 64, 64, longest);
+    make(&net, 256, 256, longest);
     svp_second(net.table, net.bytes, net.nodes, second);
     struct query q = {.net = &net, .leg = {0, net.nodes - 1}, .k = OJEONBUT_ROUTES, .a = 4, .b = 5, .closed = none_closed, .second = second};
     asked = &q;
@@ -976,7 +1009,7 @@ static void table_of_roads(void)
 {
     if (!ROADS)
         return;
-    make(&net, 64, 64, LONGEST);
+    make_region();
     double write_ms = least_time(work_write_roads), read_ms = least_time(work_read_roads);
     printf("\nA road file of %zu arcs, %zu bytes: written in %.3f ms, read in %.3f ms\n", net.bytes / OJEONBUT_RECORD, written.bytes, write_ms, read_ms);
     queries++;
@@ -1133,7 +1166,7 @@ static void stack_of_plans(void)
 
 static void table_of_stack(void)
 {
-    make(&net, 64, 64, LONGEST);
+    make_region();
     svp_second(net.table, net.bytes, net.nodes, second);
     printf("\nStack: bytes that a call writes below those of an empty call, on a painted stack. The table has %" PRIu32 " nodes and %zu arcs.\n", net.nodes,
            net.bytes / OJEONBUT_RECORD);
@@ -1176,6 +1209,7 @@ int main(int argc, char **argv)
     table_of_pairs(quick);
     if (!quick) {
         table_of_growth();
+        table_of_region();
         table_of_large(large);
         table_of_roads();
         table_of_plans();

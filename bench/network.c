@@ -33,11 +33,11 @@ static void add_arc(struct network *net, uint32_t start, uint32_t end, uint32_t 
 
 void network_make(struct network *net, uint32_t width, uint32_t height, uint32_t longest, uint64_t seed)
 {
-    bool east[OJEONBUT_NODES], south[OJEONBUT_NODES]; /* whether a street leads from the node to its neighbour there */
-    memset(net, 0, sizeof *net);
+    static bool east[OJEONBUT_NODES], south[OJEONBUT_NODES]; /* whether a street leads from the node to its neighbour there */
     net->width = width;
     net->height = height;
     net->nodes = width * height;
+    net->bytes = 0;
     for (uint32_t v = 0; v < net->nodes; v++) {
         east[v] = network_draw(&seed, 10) > 0 && v % width < width - 1;
         south[v] = network_draw(&seed, 10) > 0 && v / width < height - 1;
@@ -54,6 +54,26 @@ void network_make(struct network *net, uint32_t width, uint32_t height, uint32_t
     }
 }
 
+void network_region(struct network *net, uint32_t longest, uint64_t seed)
+{
+    const uint32_t side = 256;
+    net->width = net->height = side;
+    net->nodes = side * side;
+    net->bytes = 0;
+    for (uint32_t v = 0; v < net->nodes; v++) {
+        if (v >= side)
+            add_arc(net, v, v - side, 1 + network_draw(&seed, longest));
+        if (v % side > 0)
+            add_arc(net, v, v - 1, 1 + network_draw(&seed, longest));
+        if (v % side < side - 1)
+            add_arc(net, v, v + 1, 1 + network_draw(&seed, longest));
+        if (v + side < net->nodes)
+            add_arc(net, v, v + side, 1 + network_draw(&seed, longest));
+        if (v % 64 == 0)
+            add_arc(net, v, (v + 2 * side) % net->nodes, 1 + network_draw(&seed, longest));
+    }
+}
+
 /* The street east of node v has number 2v + 1, the one south of it 2v + 2. */
 void network_number_streets(struct network *net)
 {
@@ -66,9 +86,9 @@ void network_number_streets(struct network *net)
 
 static void begin(struct network *net, uint32_t nodes)
 {
-    memset(net, 0, sizeof *net);
     net->width = net->nodes = nodes;
     net->height = 1;
+    net->bytes = 0;
 }
 
 void network_fan(struct network *net, uint32_t arcs, uint32_t ends, uint32_t longest, uint64_t seed)

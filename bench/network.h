@@ -21,6 +21,9 @@ struct leg {
 /* width * height must not exceed OJEONBUT_NODES. */
 void network_make(struct network *net, uint32_t width, uint32_t height, uint32_t longest, uint64_t seed);
 
+/* The greatest table: 256 x 256 nodes with every street, and from each 64th node an arc more, to the node two rows further: 262,144 arcs. */
+void network_region(struct network *net, uint32_t longest, uint64_t seed);
+
 /* Gives both directions of each street one road number, from 1, and each street its own; network_make leaves them 0. */
 void network_number_streets(struct network *net);
 

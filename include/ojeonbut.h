@@ -17,17 +17,17 @@ extern "C" {
 #endif
 
 /* The version that this header declares; ojeonbut_version() gives the archive's. It goes up with every change that a caller can see: docs/CHANGES.md. */
-#define OJEONBUT_VERSION 8
+#define OJEONBUT_VERSION 9
 
 /* A road table: arc records of 16 bytes, little-endian: start node, end node, length, road number (bytes 12 to 15); 4 bytes each. Records stand in order of start node.
  * An arc's number is its record's, from 0; a node's is below the node count. Arcs that have one road number other than 0 are of one road, as both sides of a street are;
  * an arc with road number 0 is a road of its own. Any road number is taken. */
 #define OJEONBUT_RECORD 16      /* bytes of an arc record */
-#define OJEONBUT_NODES 4096     /* the most nodes; the least is 1 */
-#define OJEONBUT_ARCS 16384     /* the most arcs */
+#define OJEONBUT_NODES 65536    /* the most nodes; the least is 1 */
+#define OJEONBUT_ARCS 262144    /* the most arcs */
 #define OJEONBUT_LENGTH 1000000 /* the greatest length of an arc; the least is 1 */
-#define OJEONBUT_ROUTES 8       /* the most routes of a query or of a stored plan; the least is 1 */
-#define OJEONBUT_LABEL 96       /* bytes of a label */
+#define OJEONBUT_ROUTES 12      /* the most routes of a query or of a stored plan; the least is 1 */
+#define OJEONBUT_LABEL 128      /* bytes of a label */
 #define OJEONBUT_LABELS 65535   /* the most whole labels that may be lent */
 #define OJEONBUT_WORK 64        /* bytes of working room for each node */
 #define OJEONBUT_NONE 4294967295u /* a word of a slot that holds no arc */
@@ -44,15 +44,15 @@ enum ojeonbut_outcome {
     /* 5 is never given, and the number stays free */
     OJEONBUT_ORDER = 6,     /* a record's start node is below the one before it; number: the record */
     OJEONBUT_ENDS = 7,      /* start or goal not below the node count, or equal */
-    OJEONBUT_WANTED = 8,    /* k outside 1 to 8 */
+    OJEONBUT_WANTED = 8,    /* k outside 1 to 12 */
     OJEONBUT_THRESHOLD = 9, /* b outside 1 to 1,000, or a not below b */
     OJEONBUT_BUFFERS = 10,  /* area under k * (nodes - 1) words (k is 2 for a pair), fewer than k summaries or ratios, over 65,535 whole labels, or working room under 64 bytes for each node; the area lent for a table or a text too short; a slot narrower than a route of the plan, or fewer words than its slots */
     OJEONBUT_ROOM = 11,     /* a round needs more labels than were lent; number: the round, from 1 */
-    OJEONBUT_SIZE = 13,     /* node count outside 1 to 4,096, table bytes not a multiple of 16, or over 16,384 records */
+    OJEONBUT_SIZE = 13,     /* node count outside 1 to 65,536, table bytes not a multiple of 16, or over 262,144 records */
     OJEONBUT_FILE = 14,     /* a road file is malformed; number: its first line, from 1, that is none of the permitted ones, or the number a missing line would have */
     OJEONBUT_CLOSURES = 15, /* closure bytes of another number than the arcs, or one that is neither 0 nor 1 */
     OJEONBUT_PLAN_FILE = 16, /* a file of accepted plans is out of form, in any of its records */
-    OJEONBUT_PLAN_REQUEST = 17, /* plan number zero; on storing, not 1 to 8 routes, an empty one, slots out of form, or an arc number above 16,383 */
+    OJEONBUT_PLAN_REQUEST = 17, /* plan number zero; on storing, not 1 to 12 routes, an empty one, slots out of form, or an arc number above 262,143 */
     OJEONBUT_PLAN_THERE = 18, /* the plan is already there, on storing; it is absent, on fetching or withdrawing */
     OJEONBUT_PLAN_ROOM = 19, /* fewer free records than the plan needs */
     OJEONBUT_SECOND = 20,   /* a second table is not the first one's arcs in order of end node and then arc number */
@@ -106,7 +106,7 @@ ojeonbut_part ojeonbut_arcs_from(const uint8_t *table, size_t table_bytes, uint3
  * Checks come in the order 13, the records (2 to 6), 7, 8, 9, 10; then the rounds.
  *
  * After a refusal (2 to 10 and 13) no byte of any buffer is changed. After 0, 1 or 11:
- *   labels     every byte is zero. The room is label_bytes / 96 labels.
+ *   labels     every byte is zero. The room is label_bytes / 128 labels.
  *   area       slot r (from 0) is words r * (nodes - 1) up to (r + 1) * (nodes - 1): the arc numbers of round r + 1's answer in order, then OJEONBUT_NONE; all
  *              words of a slot without an answer are OJEONBUT_NONE. Words after the k-th slot are untouched.
  *   summaries  the first k: length, arcs and label count of each round; a round without an answer has 0, 0 and its count, under 11 the refused one has 0, 0 and
@@ -186,10 +186,10 @@ ojeonbut_made ojeonbut_write_roads(const uint8_t *table, size_t table_bytes, uin
 /* A file of accepted plans: records of OJEONBUT_PLAN_RECORD bytes, no header, little-endian. A free record is all zero, so that a new file is any number of zero records.
  * A record in use holds a part of a route:
  *   bytes 0 to 3    the plan's number, not zero
- *   byte 4          the rank of the route in the plan, from 0 to 7
+ *   byte 4          the rank of the route in the plan, from 0 to 11
  *   byte 5          how many arcs stand here, 1 to 6
  *   bytes 6 and 7   the number of the part in the route, from 0
- *   bytes 8 to 31   six arc numbers, each at most 16,383; those not used are OJEONBUT_NONE
+ *   bytes 8 to 31   six arc numbers, each at most 262,143; those not used are OJEONBUT_NONE
  * All parts of a route but its last hold six arcs. A plan's ranks, and the parts of each rank, run from 0 to their last without a gap, each once; records may stand in any order.
  * Every call first checks the whole file: where a record is otherwise, or file_bytes is not a multiple of 32, the outcome is 16. A refusal changes no byte of any buffer.
  *
@@ -197,8 +197,8 @@ ojeonbut_made ojeonbut_write_roads(const uint8_t *table, size_t table_bytes, uin
  * of rank r in order, then only OJEONBUT_NONE. Its parts go to the lowest free records, by rank and then by part; a route of n arcs takes one record for each six arcs begun.
  * Refusals, in this order:
  *   16   the file is out of form
- *   17   `plan` is zero; `routes` is not 1 to 8; `width` is above OJEONBUT_PLAN_WIDTH; slot_words is not routes * width; a slot has no arc, an arc after OJEONBUT_NONE, or another
- *        number above 16,383
+ *   17   `plan` is zero; `routes` is not 1 to 12; `width` is above OJEONBUT_PLAN_WIDTH; slot_words is not routes * width; a slot has no arc, an arc after OJEONBUT_NONE, or another
+ *        number above 262,143
  *   18   the file has a plan of this number
  *   19   fewer records are free than the plan takes
  * After 0 the records taken are written whole, and no other byte of the file has changed. */

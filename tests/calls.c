@@ -216,7 +216,7 @@ static void due_ratios(const struct query *q, struct lent *m)
         uint64_t over = 0, under = 1;
         for (uint32_t j = 0; j < i && of[i].arcs; j++) {
             uint64_t sum = overlap(q, slots + i * (q->nodes - 1), slots + j * (q->nodes - 1));
-            if (sum * under > over * of[j].length) {
+            if ((unsigned __int128)sum * under > (unsigned __int128)over * of[j].length) {
                 over = sum;
                 under = of[j].length;
             }
@@ -315,6 +315,102 @@ static bool limit_as_due(void)
     return over.outcome == OJEONBUT_BUFFERS && most.outcome == OJEONBUT_FOUND && area[0] == 0 && s[0].length == 7 && s[0].arcs == 1 && s[0].labels == 2;
 }
 
+static uint8_t large_table[(OJEONBUT_ARCS + 1) * (size_t)OJEONBUT_RECORD], large_labels[OJEONBUT_LABELS * (size_t)OJEONBUT_LABEL];
+static uint32_t large_area[OJEONBUT_ROUTES * (size_t)(OJEONBUT_NODES - 1)];
+
+static void large_arc(uint32_t i, uint32_t from, uint32_t to, uint32_t length)
+{
+    uint8_t *record = large_table + (size_t)i * OJEONBUT_RECORD;
+    put(record, from);
+    put(record + 4, to);
+    put(record + 8, length);
+    put(record + 12, 0);
+}
+
+static bool replies(ojeonbut_reply r, uint32_t outcome, uint32_t number) { return r.outcome == outcome && r.number == number; }
+
+static ojeonbut_reply ask_large(uint32_t arcs, uint32_t nodes, uint32_t goal, uint32_t k, ojeonbut_summary *s)
+{
+    return ojeonbut_query(large_table, (size_t)arcs * OJEONBUT_RECORD, nodes, 0, goal, k, 0, 1, large_labels, sizeof large_labels, large_area, (size_t)k * (nodes - 1), s, k);
+}
+
+/* The greatest table: four arcs of the greatest length from each node to the next, and from the last to the first; a node more, and an arc more. The route to the last node
+ * but one has as many labels as may be lent, that to the last one more. */
+static bool greatest_as_due(void)
+{
+    ojeonbut_summary s[1];
+    for (uint32_t i = 0; i <= OJEONBUT_ARCS; i++)
+        large_arc(i, i < OJEONBUT_ARCS ? i / 4 : OJEONBUT_NODES - 1, (i / 4 + 1) % OJEONBUT_NODES, OJEONBUT_LENGTH);
+    const size_t bytes = (size_t)OJEONBUT_ARCS * OJEONBUT_RECORD;
+    bool right = replies(ojeonbut_check(large_table, bytes, OJEONBUT_NODES), OJEONBUT_FOUND, 0) &&
+                 replies(ojeonbut_check(large_table, bytes, OJEONBUT_NODES + 1), OJEONBUT_SIZE, 0) &&
+                 replies(ojeonbut_check(large_table, bytes + OJEONBUT_RECORD, OJEONBUT_NODES), OJEONBUT_SIZE, 0);
+    right = right && replies(ask_large(OJEONBUT_ARCS, OJEONBUT_NODES, OJEONBUT_NODES - 2, 1, s), OJEONBUT_FOUND, 0) && s[0].arcs == OJEONBUT_NODES - 2 &&
+            s[0].length == (OJEONBUT_NODES - 2) * (uint64_t)OJEONBUT_LENGTH && s[0].labels == OJEONBUT_LABELS;
+    for (uint32_t i = 0; i < OJEONBUT_NODES - 2; i++)
+        right = right && large_area[i] == 4 * i;
+    right = right && large_area[OJEONBUT_NODES - 2] == OJEONBUT_NONE;
+    return right && replies(ask_large(OJEONBUT_ARCS, OJEONBUT_NODES, OJEONBUT_NODES - 1, 1, s), OJEONBUT_ROOM, 1) && s[0].arcs == 0 && s[0].labels == OJEONBUT_LABELS;
+}
+
+/* As many routes as may be wanted, of one arc each, and one more. */
+static bool most_routes_as_due(void)
+{
+    ojeonbut_summary s[OJEONBUT_ROUTES + 1];
+    for (uint32_t i = 0; i < OJEONBUT_ROUTES; i++)
+        large_arc(i, 0, 1, 1 + i);
+    bool right = replies(ask_large(OJEONBUT_ROUTES, 2, 1, OJEONBUT_ROUTES + 1, s), OJEONBUT_WANTED, 0) &&
+                 replies(ask_large(OJEONBUT_ROUTES, 2, 1, OJEONBUT_ROUTES, s), OJEONBUT_FOUND, 0);
+    for (uint32_t i = 0; i < OJEONBUT_ROUTES; i++)
+        right = right && large_area[i] == i && s[i].length == 1 + i && s[i].arcs == 1 && s[i].labels == 2;
+    return right;
+}
+
+/* Four corridors of CHAIN arcs: two from node 0 to node M, of lengths LONG[0] and LONG[1], and two from there to the last. The routes are 0 and 2, 0 and 3, 1 and 2, 1 and 3. The last
+ * shares corridor 3 with the second and corridor 1 with the third: the share with the third is the greater by one in ten million, and the products that tell it lie on either side
+ * of 2^64. */
+enum { CHAIN = 3038, M = 2 * CHAIN - 1, WIDE_NODES = 4 * CHAIN - 1, WIDE_ROUTES = 4 };
+
+static const uint64_t LONG[4] = {CHAIN * 1000000ull - 999693, CHAIN * 1000000ull - 998833, CHAIN * 1000000ull - 1000332, CHAIN * 1000000ull - 999947};
+
+/* The i-th node of a corridor: its ends, and those between, which are its own. */
+static uint32_t node_of(uint32_t corridor, uint32_t i)
+{
+    uint32_t first = corridor < 2 ? 0 : M, last = corridor < 2 ? M : WIDE_NODES - 1;
+    return i == 0 ? first : i == CHAIN ? last : first + 1 + corridor % 2 * (CHAIN - 1) + i - 1;
+}
+
+static uint32_t length_of(uint32_t corridor, uint32_t i) { return (uint32_t)(LONG[corridor] / CHAIN + (i < LONG[corridor] % CHAIN)); }
+
+/* In order of start node: of each two corridors the first arcs of both, and then their own nodes'. */
+static void make_corridors(void)
+{
+    uint32_t n = 0;
+    for (uint32_t half = 0; half < 4; half += 2) {
+        for (uint32_t c = half; c < half + 2; c++)
+            large_arc(n++, node_of(c, 0), node_of(c, 1), length_of(c, 0));
+        for (uint32_t c = half; c < half + 2; c++)
+            for (uint32_t i = 1; i < CHAIN; i++)
+                large_arc(n++, node_of(c, i), node_of(c, i + 1), length_of(c, i));
+    }
+}
+
+static bool wide_products_as_due(void)
+{
+    static uint8_t closed[4 * CHAIN];
+    ojeonbut_summary s[WIDE_ROUTES];
+    ojeonbut_ratios shown[WIDE_ROUTES];
+    static const uint32_t of[WIDE_ROUTES][2] = {{0, 2}, {0, 3}, {1, 2}, {1, 3}};
+    make_corridors();
+    ojeonbut_reply r = ojeonbut_query_ratios(large_table, sizeof closed * OJEONBUT_RECORD, WIDE_NODES, 0, WIDE_NODES - 1, WIDE_ROUTES, 3, 5, closed, sizeof closed, large_labels,
+                                             sizeof large_labels, large_area, WIDE_ROUTES * (WIDE_NODES - 1), s, WIDE_ROUTES, shown, WIDE_ROUTES);
+    bool right = replies(r, OJEONBUT_FOUND, 0);
+    for (uint32_t i = 0; i < WIDE_ROUTES; i++)
+        right = right && s[i].length == LONG[of[i][0]] + LONG[of[i][1]] && s[i].arcs == 2 * CHAIN && shown[i].detour == (double)s[i].length / (double)s[0].length;
+    return right && shown[0].overlap == 0 && shown[1].overlap == (double)LONG[0] / (double)s[0].length && shown[2].overlap == (double)LONG[2] / (double)s[0].length &&
+           shown[3].overlap == (double)LONG[1] / (double)s[2].length && shown[3].overlap > (double)LONG[3] / (double)s[1].length;
+}
+
 int main(void)
 {
     uint32_t as_due = 0, outcomes[OJEONBUT_CLOSURES + 1] = {0}, roads[3] = {0};
@@ -337,10 +433,13 @@ int main(void)
         else if (as_due == i)
             print_query(&q, wrong);
     }
-    bool limit = limit_as_due(), version = ojeonbut_version() == OJEONBUT_VERSION;
-    printf("version %s; drawn cases %d, as due %u; the limit of labels %s\noutcomes:", version ? "as due" : "NOT as due", CASES, as_due, limit ? "as due" : "NOT as due");
+    bool labels = limit_as_due(), greatest = greatest_as_due(), routes = most_routes_as_due(), wide = wide_products_as_due(), version = ojeonbut_version() == OJEONBUT_VERSION;
+    bool limits = labels && greatest && routes && wide;
+    printf("version %s; drawn cases %d, as due %u; the limits of labels %s, of tables %s, of routes %s; shares told apart by products over 64 bits %s\noutcomes:",
+           version ? "as due" : "NOT as due", CASES, as_due, labels ? "as due" : "NOT as due", greatest ? "as due" : "NOT as due", routes ? "as due" : "NOT as due",
+           wide ? "as due" : "NOT as due");
     for (int i = 0; i <= OJEONBUT_CLOSURES; i++)
         printf(" %d in %u%s", i, outcomes[i], i < OJEONBUT_CLOSURES ? "," : "\n");
     printf("rounds reached with road numbers in %u cases, in %u of them another answer or label count than with zeros\n", roads[1] + roads[2], roads[2]);
-    return version && as_due == CASES && limit ? 0 : 1;
+    return version && as_due == CASES && limits ? 0 : 1;
 }

@@ -507,7 +507,7 @@ static bool limits_as_due(void)
     bool right = store_outcome(1, 1, OJEONBUT_ARCS - 1) == OJEONBUT_FOUND && store_outcome(1, 1, OJEONBUT_ARCS) == OJEONBUT_PLAN_REQUEST &&
                  store_outcome(ROUTES + 1, 1, 0) == OJEONBUT_PLAN_REQUEST && store_outcome(1, WIDTH + 1, 0) == OJEONBUT_PLAN_REQUEST &&
                  store_outcome(1, WIDTH, 0) == OJEONBUT_FOUND && store_outcome(ROUTES, 1, 0) == OJEONBUT_FOUND;
-    /* the eight records just stored, and a ninth of rank 8; then an arc number of 16,384 */
+    /* the twelve records just stored, and a thirteenth of rank 12; then an arc number of 262,144 */
     memcpy(large + ROUTES * RECORD, large, RECORD);
     large[ROUTES * RECORD + 4] = ROUTES;
     right = right && ojeonbut_plan_collect(large, ROUTES * RECORD).outcome == OJEONBUT_FOUND && ojeonbut_plan_collect(large, (ROUTES + 1) * RECORD).outcome == OJEONBUT_PLAN_FILE;

@@ -277,7 +277,7 @@ static bool write_as_due(void)
 
 /* ---- files of the greatest size */
 
-enum { LARGE = 400000 };
+enum { LARGE = 6000000 };
 
 static char large[LARGE];
 static uint8_t large_table[OJEONBUT_ARCS * OJEONBUT_RECORD + 1];
@@ -376,9 +376,9 @@ int main(void)
     bool greatest = large_as_due(rising) && large_as_due(falling) && large_as_due(scattered), over = one_more_as_due();
     double in_order = time_of(rising), against = time_of(falling), mixed = time_of(scattered);
     bool quick = against <= 2 * in_order && mixed <= 2 * in_order;
-    printf("drawn files and tables %d, as due %u; 16,384 arcs %s, one more %s\n", CASES, as_due, greatest ? "as due" : "NOT as due", over ? "as due" : "NOT as due");
+    printf("drawn files and tables %d, as due %u; 262,144 arcs %s, one more %s\n", CASES, as_due, greatest ? "as due" : "NOT as due", over ? "as due" : "NOT as due");
     print_outcomes("read", outcomes[0]);
     print_outcomes("written", outcomes[1]);
-    printf("16,384 arcs rising %.1f ms, falling %.1f ms, scattered %.1f ms: %s\n", 1e3 * in_order, 1e3 * against, 1e3 * mixed, quick ? "at most twice" : "OVER twice");
+    printf("262,144 arcs rising %.1f ms, falling %.1f ms, scattered %.1f ms: %s\n", 1e3 * in_order, 1e3 * against, 1e3 * mixed, quick ? "at most twice" : "OVER twice");
     return as_due == CASES && greatest && over && quick ? 0 : 1;
 }

@@ -495,7 +495,7 @@ static bool limits_as_due(void)
     return right && whole.place == 0 && whole.bytes == most && none.place == 0 && none.bytes == 0;
 }
 
-/* As many routes as may be wanted: by each of eight nodes, all of one length, in order of their numbers. Where the last two are of one road the last is beyond the threshold. */
+/* As many routes as may be wanted: by each of as many nodes, all of one length, in order of their numbers. Where the last two are of one road the last is beyond the threshold. */
 static bool most_routes_as_due(void)
 {
     enum { MIDDLES = OJEONBUT_ROUTES, WIDTH = MIDDLES + 1 };

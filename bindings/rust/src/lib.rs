@@ -3,7 +3,10 @@
 //! What that header asks of a caller, Rust's slices ensure: they are valid for their lengths, and a `&mut` one overlaps no other.
 
 /// The version of include/ojeonbut.h that these calls are for. Each call asks once that the archive linked is of it, and panics where it is not.
-pub const VERSION: u32 = 8;
+pub const VERSION: u32 = 9;
+
+/// Bytes of a label.
+pub const LABEL: usize = 128;
 
 /// Bytes of a record in a file of accepted plans.
 pub const PLAN_RECORD: usize = 32;
@@ -34,7 +37,7 @@ pub mod outcome {
     pub const ORDER: u32 = 6;
     /// Start or goal not below the node count, or equal.
     pub const ENDS: u32 = 7;
-    /// k outside 1 to 8.
+    /// k outside 1 to 12.
     pub const WANTED: u32 = 8;
     /// b outside 1 to 1,000, or a not below b.
     pub const THRESHOLD: u32 = 9;
@@ -50,7 +53,7 @@ pub mod outcome {
     pub const CLOSURES: u32 = 15;
     /// A file of accepted plans is out of form.
     pub const PLAN_FILE: u32 = 16;
-    /// Plan number zero; on storing, not 1 to 8 routes, an empty one, slots out of form, or an arc number above 16,383.
+    /// Plan number zero; on storing, not 1 to 12 routes, an empty one, slots out of form, or an arc number above 262,143.
     pub const PLAN_REQUEST: u32 = 17;
     /// The plan is already there, on storing; it is absent, on fetching or withdrawing.
     pub const PLAN_THERE: u32 = 18;

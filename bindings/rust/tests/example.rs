@@ -1,6 +1,6 @@
 //! The scope's example through the safe calls.
 use ojeonbut::{arcs_from, check, next_arc, outcome, pair, plan_collect, plan_fetch, plan_store, plan_withdraw, query, query_closed, query_ratios, query_via, read_roads, run, version, write_roads};
-use ojeonbut::{Direction, Made, Ratios, Reply, Summary, NONE, PLAN_RECORD, PLAN_WIDTH, VERSION, WORK};
+use ojeonbut::{Direction, Made, Ratios, Reply, Summary, LABEL, NONE, PLAN_RECORD, PLAN_WIDTH, VERSION, WORK};
 
 fn table() -> Vec<u8> {
     let arcs: [[u32; 4]; 5] = [[0, 1, 2, 0], [0, 2, 3, 0], [1, 2, 1, 0], [1, 3, 2, 0], [2, 3, 2, 0]];
@@ -10,7 +10,7 @@ fn table() -> Vec<u8> {
 #[test]
 fn routes() {
     let table = table();
-    let mut labels = vec![85u8; 512 * 96 + 5];
+    let mut labels = vec![85u8; 512 * LABEL + 5];
     let mut area = [7u32; 13];
     let mut summaries = [Summary { length: 7, arcs: 7, labels: 7 }; 5];
     let r = query(&table, 4, 0, 3, 4, (1, 2), &mut labels, &mut area, &mut summaries);
@@ -24,7 +24,7 @@ fn routes() {
 #[test]
 fn refusals_write_nothing() {
     let table = table();
-    let mut labels = vec![85u8; 96];
+    let mut labels = vec![85u8; LABEL];
     let mut area = [7u32; 12];
     let mut summaries = [Summary { length: 7, arcs: 7, labels: 7 }; 4];
     let r = query(&table, 4, 0, 3, 4, (1, 1), &mut labels, &mut area, &mut summaries);
@@ -35,7 +35,7 @@ fn refusals_write_nothing() {
 #[test]
 fn closed_roads() {
     let table = table();
-    let mut labels = vec![85u8; 512 * 96];
+    let mut labels = vec![85u8; 512 * LABEL];
     let mut area = [7u32; 6];
     let mut summaries = [Summary { length: 7, arcs: 7, labels: 7 }; 2];
     let wrong = query_closed(&table, 4, 0, 3, 2, (1, 2), &[0; 4], &mut labels, &mut area, &mut summaries);
@@ -52,7 +52,7 @@ fn closed_roads() {
 #[test]
 fn ratios() {
     let table = table();
-    let mut labels = vec![85u8; 512 * 96];
+    let mut labels = vec![85u8; 512 * LABEL];
     let mut area = [7u32; 12];
     let mut summaries = [Summary { length: 7, arcs: 7, labels: 7 }; 4];
     let seven = Ratios { overlap: 7.0, detour: 7.0 };
@@ -169,10 +169,10 @@ fn plan_record(plan: u32, rank: u8, part: u16, arcs: &[u32]) -> Vec<u8> {
 fn plans() {
     let mut file = [0u8; 5 * PLAN_RECORD];
     let mut area = [7u32; 17];
-    let slots = [0, 3, NONE, NONE, NONE, NONE, NONE, NONE, 0, 1, 2, 3, 4, 5, 6, 16383];
+    let slots = [0, 3, NONE, NONE, NONE, NONE, NONE, NONE, 0, 1, 2, 3, 4, 5, 6, 262143];
     assert_eq!(plan_store(&mut file, 9, &[5], 1, 1), reply(outcome::FOUND, 0));
     assert_eq!(plan_store(&mut file, u32::MAX, &slots, 2, 8), reply(outcome::FOUND, 0));
-    let due = [plan_record(9, 0, 0, &[5]), plan_record(u32::MAX, 0, 0, &[0, 3]), plan_record(u32::MAX, 1, 0, &[0, 1, 2, 3, 4, 5]), plan_record(u32::MAX, 1, 1, &[6, 16383]), vec![0; 32]];
+    let due = [plan_record(9, 0, 0, &[5]), plan_record(u32::MAX, 0, 0, &[0, 3]), plan_record(u32::MAX, 1, 0, &[0, 1, 2, 3, 4, 5]), plan_record(u32::MAX, 1, 1, &[6, 262143]), vec![0; 32]];
     assert_eq!(file[..], due.concat()[..]);
     assert_eq!(plan_store(&mut file, 9, &[5], 1, 1), reply(outcome::PLAN_THERE, 0));
     assert_eq!(plan_store(&mut file, 8, &[5, 6], 2, 1), reply(outcome::PLAN_ROOM, 0));

@@ -8,7 +8,7 @@ use Rattle.desk_text.specs.Desk.{deskText}
 
 -- The room that any answer fits in.
 abbrev pub mostText : ℕ
-mostText = 196608
+mostText = 294912
 
 -- The whole text that is due, at the front of the buffer, and its length; a buffer that is too small for some answer stays as it is.
 pub record Written (text out out′ : List ℕ) (n : ℕ) : Type 0 where

@@ -13,7 +13,7 @@ ghost use Rattle.desk_text.specs.Shown.{KnownEnd, Known, ShownEnd, Shown
 ghost use Rattle.desk_text.specs.Written.{Written, mostText};
 
 // The room that any answer fits in.
-pub const MOST_TEXT: usize = 196608;
+pub const MOST_TEXT: usize = 294912;
 
 // What the program reads. A well-formed text has at most 135,245 bytes (a first line of 77, and
 // 4,096 lines of 33), so what lies past it changes no answer (`desk-cut`).
@@ -21,8 +21,8 @@ pub const MOST_READ: usize = 262144;
 
 const DESK_LABELS: usize = 512;
 
-// Slots for eight routes among 1,024 nodes.
-const DESK_WORDS: usize = 8184;
+// Slots for twelve routes among 1,024 nodes.
+const DESK_WORDS: usize = 12276;
 
 // A table of 4,096 arcs.
 const DESK_TABLE: usize = 65536;

@@ -51,7 +51,7 @@ pub(crate) fn refused(out: &mut [u8], told: Told) -> usize
 
 // How many rounds were answered: the leading ones whose summaries have arcs.
 fn leading(sums: summary::Sums, k: usize) -> usize
-    requires { ⌜ k ≤ 8 ⌝ }
+    requires { ⌜ k ≤ mostRoutes ⌝ }
     ensures { λ r. ⌜ Leading sums k r ⌝ }
 {
     let arcs = sums.arcs;

@@ -14,7 +14,7 @@ mostEarlier = mostRoutes - 1
 abbrev pub headBytes : ℕ
 headBytes = 40
 
--- "labels of 96 bytes"
+-- "Labels grow to 128 bytes" (02.11)
 abbrev pub labelBytes : ℕ
 labelBytes = headBytes + 8 * mostEarlier
 

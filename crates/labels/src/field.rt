@@ -10,7 +10,7 @@ ghost use Rattle.labels.specs.Field.{farAt, depthAt, farOf, depthOf};
 ghost use Rattle.labels.specs.Standing.{Down, Jumping};
 
 // A label has its overlap with each of so many earlier routes.
-pub const MOST_EARLIER: usize = 7;
+pub const MOST_EARLIER: usize = 11;
 
 // The bytes of a label: its head, and its overlaps.
 pub const LABEL: usize = HEAD + 8 * MOST_EARLIER;
@@ -20,6 +20,9 @@ const HEAD: usize = 40;
 // No arc: the last arc of the empty chain, and what fills a slot after its arcs.
 pub const NONE: u32 = 4294967295;
 
+// Where each field stands. Label numbers, nodes and numbers of arcs have 16 bits: there are at most
+// 65,535 labels and 65,536 nodes, each numbered from 0, and a chain has at most 65,535 arcs. An arc
+// number, below 262,144, needs 18 bits and has 32.
 const LAST_ARC: usize = 0;
 
 const EXTENDS: usize = 4;

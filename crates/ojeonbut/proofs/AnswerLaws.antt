@@ -1,10 +1,11 @@
 -- The answer of a core, as the exported queries hand it on: the machine values of its fields, and what is due once as many records are written as it says.
 use mathlib.Core.Path.{_≡_, _∙_}
-use Prim.Native.Nat.{ℕ, _<_, _^_}
+use Prim.Native.Nat.{ℕ, _+_, _*_, _<_, _^_}
 use mathlib.Core.List.{[], _∷_, List}
 use mir.Val.{Val}
 use denote.Laws.{Is}
 use denote.Struct.Laws as LL
+use Rattle.net.specs.Limits.{mostRoutes}
 use Rattle.summary.specs.declared.Summary.{Summary}
 use Rattle.summary.specs.Sums.{written}
 use Rattle.summary.proofs.Sums as S
@@ -17,6 +18,10 @@ use Rattle.query_rounds.proofs.Got.Laws as G′
 use Rattle.query.specs.Query.{Input, Replied, Cored}
 use Rattle.query_via.specs.Via as Via
 use Rattle.query_pair.specs.Pair as Pair
+
+-- Where the field after the summaries stands: behind the 8 bytes of what is told, and 8, 2 and 2 bytes for each route.
+abbrev pub after-sums : ℕ
+after-sums = 8 + 12 * mostRoutes
 
 abbrev pub mach : Got → Val
 mach g = LL.tuple-val G.the-type G′.the-laws (G.the-type .to g)

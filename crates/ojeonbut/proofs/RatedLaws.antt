@@ -1,10 +1,11 @@
 -- The answer of the core with ratios, as the exported query hands it on: the machine values of its fields that the plain answer has not, and what is due once as many records of both kinds are written as it says.
 use mathlib.Core.Path.{_≡_, _∙_}
-use Prim.Native.Nat.{ℕ, _<_, _^_}
+use Prim.Native.Nat.{ℕ, _+_, _*_, _<_, _^_}
 use mathlib.Core.List.{[], _∷_, List}
 use mir.Val.{Val}
 use denote.Laws.{Is}
 use denote.Struct.Laws as LL
+use Rattle.net.specs.Limits.{mostRoutes}
 use Rattle.summary.specs.declared.Summary.{Summary}
 use Rattle.summary.specs.Sums as Sums
 use Rattle.summary.proofs.Sums as S
@@ -18,7 +19,11 @@ use Rattle.query_ratios.specs.declared.Rated.{Rated}
 use Rattle.query_ratios.specs.Rated.{RepliedRatios, CoredRatios, gotOf}
 use Rattle.query_ratios.proofs.Rated as R
 use Rattle.query_ratios.proofs.Rated.Laws as R′
-use Rattle.ojeonbut.proofs.AnswerLaws.{mach-sums, mach-told, replied}
+use Rattle.ojeonbut.proofs.AnswerLaws.{after-sums, mach-sums, mach-told, replied}
+
+-- Where the field after the ratios stands: two floats for each route further.
+abbrev pub after-rows : ℕ
+after-rows = after-sums + 16 * mostRoutes
 
 abbrev pub mach-rated : Rated → Val
 mach-rated g = LL.tuple-val R.the-type R′.the-laws (R.the-type .to g)

@@ -21,7 +21,7 @@ ghost use Rattle.ojeonbut.specs.Exported.{version, runPart, partOf, comi
 ghost use Rattle.ojeonbut.specs.Exported.{runPartBy, numbersOf, Numbered};
 
 // OJEONBUT_VERSION of include/ojeonbut.h.
-const VERSION: u32 = 8;
+const VERSION: u32 = 9;
 
 // The directions of ojeonbut_run: the arcs that leave a node, and those that come to it.
 const LEAVING: u32 = 0;

@@ -64,12 +64,12 @@ file = 14
 abbrev pub closures : ℕ
 closures = 15
 
--- "length not a multiple of 32, a free record not all zero, a field outside its form, an arc number above 16,383, or a plan whose ranks (0 to 7) or parts have a gap or
--- a double" (02.6)
+-- "length not a multiple of 32, a free record not all zero, a field outside its form, an arc number above" 262,143, "or a plan whose ranks" (0 to 11) "or parts have
+-- a gap or a double" (02.6); "rank runs to 11, arc numbers to 262,143" (02.11)
 abbrev pub planFile : ℕ
 planFile = 16
 
--- "plan number zero, or on storing not 1 to 8 routes, an empty one, slots out of form or such an arc number" (02.6)
+-- "plan number zero, or on storing not 1 to" 12 "routes, an empty one, slots out of form or such an arc number" (02.6, 02.11)
 abbrev pub planRequest : ℕ
 planRequest = 17
 

@@ -4,7 +4,7 @@ use mathlib.Core.Path.{_≡_, refl, sym, _∙_}
 use mathlib.Core.Bool.{true, false, _&&_, cond}
 use mathlib.Core.List.{List, [], _∷_}
 use mathlib.Core.Logic.{_≢_, _⊎_, inl, inr, ⊎-elim, _↔_}
-use Prim.Native.Nat.{ℕ, zero, suc, _+_, _<_}
+use Prim.Native.Nat.{ℕ, zero, suc, _+_, _-_, _<_}
 use native.Mathlib.Omega.{arith}
 use lib.Dec.{eqb}
 use borrow.Author.Tests.{eqb-true, eqb-false, eq-eqb, ne-eqb}
@@ -128,7 +128,7 @@ module _ (f : List ℕ) (plan : ℕ) where
   unfolding planIn
   there-some s some h =
       let w = has-plan-e h in
-      (routeOf f plan 0, routesFrom 7 f plan 1, routes-step f plan 7 0 (stands-e f plan 0 0 (first-there f s plan some (w .0) (w .1) (w .2))))
+      (routeOf f plan 0, routesFrom (mostRoutes - 1) f plan 1, routes-step f plan (mostRoutes - 1) 0 (stands-e f plan 0 0 (first-there f s plan some (w .0) (w .1) (w .2))))
 
   pub there-exactly : Sound f → plan ≢ 0 → (hasPlan f plan ≡ true) ↔ (planIn f plan ≢ [])
   there-exactly s some = (

@@ -28,7 +28,7 @@ unfoldable pub hasGap : List ℕ → ℕ → Bool
 unfolding any upFrom
 hasGap f i = not (eqb (rankAt f i) 0 && eqb (partAt f i) 0) && not (any (follows f i) (upFrom 0 (records f)))
 
--- "a free record not all zero, a field outside its form, [...] or a plan whose ranks (0 to 7) or parts have a gap or a double"
+-- "a free record not all zero, a field outside its form, [...] or a plan whose ranks [...] or parts have a gap or a double"
 unfoldable pub wrongAt : List ℕ → ℕ → Bool
 unfolding formed isDouble hasGap
 wrongAt f i = not (formed f i) || (not (eqb (planAt f i) 0) && (isDouble f i || hasGap f i))

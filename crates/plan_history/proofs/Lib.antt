@@ -10,3 +10,4 @@ pub mod Stores
 pub mod Withdraws
 pub mod Collects
 pub mod Histories
+pub mod Older

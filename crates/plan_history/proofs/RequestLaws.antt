@@ -1,4 +1,4 @@
--- What a request to store asks of its routes, in propositions: there are 1 to 8, each has an arc and at most 65,535, and each arc number is below 16,384. The routes
+-- What a request to store asks of its routes, in propositions: there are 1 to 12, each has an arc and at most 65,535, and each arc number is below 262,144. The routes
 -- are read from the slots, each up to the first word that is no arc number.
 use mathlib.Core.Path.{_≡_, sym, ap, subst, _∙_}
 use mathlib.Core.Bool.{Bool, true, false, not, _&&_, _||_}

@@ -50,11 +50,11 @@ unfoldable pub blank : List ℕ → ℕ → Bool
 unfolding every slot
 blank f i = every (λ b. eqb b 0) (slot recordBytes i f)
 
--- 16: "an arc number above 16,383"; "unused ones 4,294,967,295"
+-- 16: "arc numbers to 262,143" (02.11); "unused ones 4,294,967,295"
 unfoldable pub formedArc : List ℕ → ℕ → ℕ → Bool
 formedArc f i j = cond (ltb j (usedAt f i)) (ltb (arcAt f i j) mostArcs) (eqb (arcAt f i j) noNumber)
 
--- 16: "a field outside its form": ranks are 0 to 7, a record in use has 1 to 6 arcs.
+-- 16: "a field outside its form": "rank runs to 11" (02.11), a record in use has 1 to 6 arcs.
 unfoldable pub formedUse : List ℕ → ℕ → Bool
 unfolding every upFrom formedArc
 formedUse f i = ltb (rankAt f i) mostRoutes && (leb 1 (usedAt f i) && leb (usedAt f i) partArcs) && every (formedArc f i) (upFrom 0 partArcs)

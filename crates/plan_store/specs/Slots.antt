@@ -22,13 +22,13 @@ arcsIn words = firstAt (λ m. eqb (getD words m 0) noNumber) (length words) 0
 abbrev pub routeIn : List ℕ → List ℕ
 routeIn words = take (arcsIn words) words
 
--- 17: "an empty one, slots out of form or such an arc number", that is, one "above 16,383".
+-- 17: "an empty one, slots out of form or such an arc number", that is, one above 262,143 (02.11).
 unfoldable pub wrongSlot : List ℕ → Bool
 unfolding arcsIn every
 wrongSlot words =
     eqb (arcsIn words) 0 || not (every (λ a. ltb a mostArcs) (routeIn words)) || not (every (λ a. eqb a noNumber) (drop (arcsIn words) words))
 
--- 17: "plan number zero, or on storing not 1 to 8 routes, an empty one, slots out of form or such an arc number"
+-- 17: "plan number zero, or on storing not 1 to" 12 "routes, an empty one, slots out of form or such an arc number"
 unfoldable pub wrongRequest : ℕ → List ℕ → ℕ → ℕ → Bool
 unfolding any upFrom wrongSlot slot
 wrongRequest plan slots routes width =

@@ -1,4 +1,4 @@
--- The summaries by value. A round more sets the first record that is three zeros; the first k of the eight are those of k rounds.
+-- The summaries by value. A round more sets the first record that is three zeros; the first k of them are those of k rounds.
 use mathlib.Core.Path.{_≡_, refl, sym, ap, ap₂, subst, _∙_}
 use mathlib.Core.Logic.{_⊎_, inl, inr, ⊎-elim, _≢_}
 use mathlib.Core.List.{List, [], _∷_, _++_, map, map-append, append-assoc}

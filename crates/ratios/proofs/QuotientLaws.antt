@@ -1,4 +1,4 @@
--- A whole number below 2 ^ 32 is below 2 ^ 53, up to which a 64-bit float holds every whole number, so its cast rounds nothing (`cast-value`). The division of two
+-- A whole number below 2 ^ 40 is below 2 ^ 53, up to which a 64-bit float holds every whole number, so its cast rounds nothing (`cast-value`). The division of two
 -- such floats rounds one fraction, once: theirs, which is n / d with the powers of two that they are written with both above and below. `round` sees only the
 -- value of a fraction (`round-same`), so that is n / d rounded. By the same law equal fractions have one quotient, and n / n has that of 1 / 1, which is computed.
 use mathlib.Core.Path.{_≡_, refl, sym, ap, _∙_}
@@ -14,22 +14,23 @@ use lib.Ieee.Exact.{HasValue, round-exact}
 use lib.Ieee.Fits.{down-pos}
 use lib.Ieee.Scale.{round-same}
 use borrow.Author.Tests.{ne-eqb}
+use Rattle.products.specs.Product.{mostFactor}
 use Rattle.ratios.specs.Ratios.{quotient, noShare}
 use Rattle.ratios.specs.declared.Fraction.{Fraction}
 
 -- ---- a cast is exact
 
-below-digits : (n : ℕ) → n < 4294967296 → n < 2 ^ prec binary64
+below-digits : (n : ℕ) → n < mostFactor → n < 2 ^ prec binary64
 below-digits n h = lt-of-lt-of-le h (lit≤ tt)
 
-cast-value : (n : ℕ) → n < 4294967296 → HasValue (ofInt binary64 (pos n)) false n 1
+cast-value : (n : ℕ) → n < mostFactor → HasValue (ofInt binary64 (pos n)) false n 1
 unfolding ofInt
 cast-value n h =
     round-exact binary64 false n 1 n (low binary64) (zero-lt-suc 0) (below-digits n h)
     (lt-of-lt-of-le (shl-lt (prec binary64) (low binary64) (below-digits n h)) (lit≤ tt))
     (sym (mul-one (n * 2 ^ low binary64)))
 
-pub cast-fits : (n : ℕ) → n < 4294967296 → T (inFloat binary64 (pos n))
+pub cast-fits : (n : ℕ) → n < mostFactor → T (inFloat binary64 (pos n))
 unfolding inFloat
 cast-fits n h = le→leb n (2 ^ prec binary64) (le-of-lt (below-digits n h))
 
@@ -59,7 +60,7 @@ divides-values (fin s m e) (fin t w g) n d p h k =
     (round-same binary64 false (m * up e * down g) (w * up g * down e) n d (mul-pos positive (down-pos e)) p
     (same-fraction n d (m * up e) (down e) (w * up g) (down g) over under))
 
-pub divides : (n d : ℕ) → n < 4294967296 → 0 < d → d < 4294967296 → div binary64 (ofInt binary64 (pos n)) (ofInt binary64 (pos d)) ≡ round binary64 false n d
+pub divides : (n d : ℕ) → n < mostFactor → 0 < d → d < mostFactor → div binary64 (ofInt binary64 (pos n)) (ofInt binary64 (pos d)) ≡ round binary64 false n d
 divides n d h p k = divides-values (ofInt binary64 (pos n)) (ofInt binary64 (pos d)) n d p (cast-value n h) (cast-value d k)
 
 -- ---- quotients that are known

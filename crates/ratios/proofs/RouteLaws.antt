@@ -1,6 +1,6 @@
 -- Routes in their slots. The first words of a slot are its route (`Routes .front`), so a route has no more arcs than a slot has words, and its overlaps and
--- lengths are below 2 ^ 32; what routeIn takes out of a route is the route (`route-again`). The routes before one more are those before it, and it
--- (`earlier-snoc`), so by induction the greatest share with them is 0 over 1 or a share with one of them, whose parts are below 2 ^ 32 (`greatest-small`).
+-- lengths are below 2 ^ 40; what routeIn takes out of a route is the route (`route-again`). The routes before one more are those before it, and it
+-- (`earlier-snoc`), so by induction the greatest share with them is 0 over 1 or a share with one of them, whose parts are below 2 ^ 40 (`greatest-small`).
 use mathlib.Core.Path.{_≡_, refl, sym, ap, ap₂, subst, _∙_}
 use mathlib.Core.Bool.{Bool, true, false, not}
 use mathlib.Core.List.{List, [], _∷_, _++_}
@@ -14,6 +14,7 @@ use lib.Seq.{length-take-le}
 use Rattle.lists.specs.Tests.{keep, consIf, upFrom}
 use Rattle.lists.proofs.LoopLaws.{map-upFrom-more}
 use Rattle.words.specs.Part.{slot}
+use Rattle.products.specs.Product.{mostFactor}
 use Rattle.net.specs.Net.{Net}
 use Rattle.net.specs.Route.{overlap}
 use Rattle.net.specs.Limits.{mostNodes}
@@ -47,9 +48,9 @@ pub earlier-snoc : (w r : ℕ) (area : List ℕ) → earlierIn w (r + 1) area �
 unfolding earlierIn
 earlier-snoc w r area = map-upFrom-more (λ j. routeIn (slot w j area)) r
 
--- Both parts of the fraction are below 2 ^ 32, and the lower one is above 0.
+-- Both parts of the fraction are below 2 ^ 40, and the lower one is above 0.
 abbrev pub Small : Fraction → Type 0
-Small f = (f .over < 4294967296) × (0 < f .under) × (f .under < 4294967296)
+Small f = (f .over < mostFactor) × (0 < f .under) × (f .under < mostFactor)
 
 pub small-is : (f g : Fraction) → f ≡ g → Small g → Small f
 small-is f g e s = subst Small (sym e) s

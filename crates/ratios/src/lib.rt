@@ -8,6 +8,7 @@ ghost use mathlib.Core.Path.{_≡_};
 ghost use mathlib.Core.List.{[]};
 ghost use Prim.Native.Nat.{_+_, _<_, _≤_};
 ghost use lib.ListN.{length};
+ghost use Rattle.products.specs.Product.{mostFactor};
 ghost use Rattle.net.specs.Limits.{mostRoutes};
 ghost use Rattle.search_ask.specs.Ask.{netFor, width};
 ghost use Rattle.search_ask.specs.Earlier.{earlierIn};
@@ -36,7 +37,7 @@ pub struct Fraction {
 
 // The one division.
 fn quotient(f: Fraction) -> f64
-    requires { ⌜ (f .over < 4294967296) × (0 < f .under) × (f .under < 4294967296) ⌝ }
+    requires { ⌜ (f .over < mostFactor) × (0 < f .under) × (f .under < mostFactor) ⌝ }
     ensures { λ r. ⌜ r ≡ quotient f ⌝ }
 {
     f.over as f64 / f.under as f64

@@ -6,6 +6,7 @@ ghost use mathlib.Core.List.{[]};
 ghost use Prim.Native.Nat.{_+_, _*_, _≤_, _<_};
 ghost use lib.ListN.{length, take};
 ghost use Rattle.words.specs.Part.{slot};
+ghost use Rattle.products.specs.Product.{mostFactor};
 ghost use Rattle.net.specs.Limits.{mostNodes};
 ghost use Rattle.net.specs.Route.{overlap};
 ghost use Rattle.search_ask.specs.Ask.{Accepted, netFor, width};
@@ -64,11 +65,11 @@ fn share(
 
 // The greater of two, the former of equal ones.
 fn greater_of(f: Fraction, x: Fraction) -> Fraction
-    requires { ⌜ (f .over < 4294967296) × (f .under < 4294967296) × (x .over < 4294967296)
-        × (x .under < 4294967296) ⌝ }
+    requires { ⌜ (f .over < mostFactor) × (f .under < mostFactor)
+        × (x .over < mostFactor) × (x .under < mostFactor) ⌝ }
     ensures { λ r. ⌜ r ≡ greaterOf f x ⌝ }
 {
-    if f.over * x.under < x.over * f.under {
+    if products::less(f.over, x.under, x.over, f.under) {
         return x;
     }
     f

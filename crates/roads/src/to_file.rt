@@ -2,11 +2,11 @@
 use crate::shell;
 use road_made::Made;
 
-// One record more than a table may have: what is longer has too many as well.
+// A table of as many bytes, or more, is refused with 10: one of 16,384 arcs is taken.
 const MOST_TABLE: usize = 262160;
 
-// The longest road file: a line of 16 bytes, and 16,384 of 20.
-const MOST_TEXT: usize = 327696;
+// The longest road file of such a table: a line of 17 bytes, and 16,384 of 22.
+const MOST_TEXT: usize = 360465;
 
 fn turn(table: &[u8], nodes: u32, text: &mut [u8]) {
     match road_write::write(table, nodes, text) {
@@ -18,8 +18,10 @@ fn turn(table: &[u8], nodes: u32, text: &mut [u8]) {
 // The first n bytes.
 fn turn_first(table: &[u8; MOST_TABLE], n: usize, nodes: u32, text: &mut [u8]) {
     let whole = &table[..];
-    if n <= whole.len() {
+    if n < whole.len() {
         turn(&whole[0..n], nodes, text);
+    } else {
+        shell::refuse(outcome::BUFFERS, 0);
     }
 }
 

@@ -5,6 +5,7 @@ use road_made::Made;
 // A text of as many bytes, or more, is refused with 10.
 const MOST_TEXT: usize = 524288;
 
+// A text of more than 16,384 arcs too.
 const MOST_TABLE: usize = 262144;
 
 fn turn(text: &[u8], table: &mut [u8]) {

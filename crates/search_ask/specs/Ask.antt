@@ -18,7 +18,7 @@ use Rattle.labels.specs.Standing.{Comparable, Standing}
 use Rattle.search_ask.specs.declared.Ask.{Ask}
 use Rattle.search_ask.specs.declared.Candidate.{Candidate}
 
--- "The room is the number of whole 96-byte labels in the label buffer."
+-- "The room is the number of whole" 128-byte "labels in the label buffer." (02.11)
 abbrev pub roomIn : List ℕ → ℕ
 roomIn labels = length labels / labelBytes
 

@@ -6,7 +6,7 @@ ghost use Rattle.net.specs.Limits.{mostRoutes};
 ghost use Rattle.summary.specs.Sums.{recordAt, setAt, written};
 
 // The most routes that a query may want.
-pub const MOST_ROUTES: usize = 8;
+pub const MOST_ROUTES: usize = 12;
 
 // Length, number of arcs and label count of one round.
 #[repr(C)]

@@ -7,9 +7,9 @@ ghost use Rattle.net.specs.Limits.{mostArcs};
 ghost use Rattle.table.specs.Table.{records};
 ghost use Rattle.table.specs.Fault.{faultOf, lowest, wrongSize, tableFault};
 
-pub const MOST_NODES: u32 = 4096;
+pub const MOST_NODES: u32 = 65536;
 
-pub const MOST_ARCS: usize = 16384;
+pub const MOST_ARCS: usize = 262144;
 
 pub const MOST_LENGTH: u32 = 1000000;
 

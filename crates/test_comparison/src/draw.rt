@@ -77,10 +77,10 @@ fn records(case: usize) -> usize {
 }
 
 fn routes(case: usize) -> usize {
-    let wrong = test_cells::mul(below(case, 5, 2), 9);
-    let any = test_cells::add(below(case, 5, 8), 1);
+    let wrong = test_cells::mul(below(case, 5, 2), 13);
+    let any = test_cells::add(below(case, 5, 12), 1);
     let drawn = test_cells::pick(once_in(case, 6, 40), wrong, any);
-    test_cells::pick(once_in(case, 4, 2), 8, drawn)
+    test_cells::pick(once_in(case, 4, 2), 12, drawn)
 }
 
 // Does the case have the next of the thresholds 0/1000 to 999/1000, in turn?
@@ -124,11 +124,11 @@ fn words(case: usize) -> usize {
     test_cells::pick(once_in(case, 15, 60), test_cells::less_one(slots), more)
 }
 
-// Summaries: eight, but one time in eight as many as are wanted or one less.
+// Summaries: twelve, but one time in eight as many as are wanted or one less.
 fn summaries(case: usize) -> usize {
     let k = routes(case);
     let few = test_cells::pick(once_in(case, 18, 6), test_cells::less_one(k), k);
-    test_cells::pick(once_in(case, 17, 8), few, 8)
+    test_cells::pick(once_in(case, 17, 8), few, 12)
 }
 
 // Table bytes past the last whole record.
@@ -174,7 +174,7 @@ fn asked(case: usize, i: usize) -> usize {
         cells::ODD_BYTES => odd_bytes(case),
         cells::CLOSURES => manner(case),
         cells::CLOSURE_BYTES => closure_bytes(case),
-        cells::ODD_LABEL => below(case, 26, 96),
+        cells::ODD_LABEL => below(case, 26, 128),
         _ => 0,
     }
 }

@@ -5,11 +5,11 @@ ghost use Prim.Native.Nat.{_≤_};
 
 // Each buffer, what of it lies before the part that is lent, and what every byte and word around
 // what is lent holds: no arc number, and no closure byte.
-pub(crate) const LABELS: usize = 6400;
+pub(crate) const LABELS: usize = 8528;
 
 const LABELS_FROM: usize = 48;
 
-pub(crate) const AREA: usize = 64;
+pub(crate) const AREA: usize = 80;
 
 pub(crate) const AREA_FROM: usize = 8;
 
@@ -171,15 +171,15 @@ fn end(from: usize, count: usize, most: usize) -> usize
 }
 
 fn labels_to(case: &cells::Cells) -> usize
-    ensures { λ r. ⌜ (48 ≤ r) × (r ≤ 6400) ⌝ }
+    ensures { λ r. ⌜ (48 ≤ r) × (r ≤ 8528) ⌝ }
 {
     let odd = cells::get(case, cells::ODD_LABEL);
-    let bytes = test_cells::place(cells::get(case, cells::ROOM), 96, odd);
+    let bytes = test_cells::place(cells::get(case, cells::ROOM), 128, odd);
     end(LABELS_FROM, bytes, LABELS)
 }
 
 fn area_to(case: &cells::Cells) -> usize
-    ensures { λ r. ⌜ (8 ≤ r) × (r ≤ 64) ⌝ }
+    ensures { λ r. ⌜ (8 ≤ r) × (r ≤ 80) ⌝ }
 {
     end(AREA_FROM, cells::get(case, cells::WORDS), AREA)
 }
@@ -202,7 +202,7 @@ fn labels_right(labels: &[u8; LABELS], end: usize) -> usize {
 
 // Number i of the summaries.
 fn of_sums(sums: summary::Sums, i: usize) -> usize {
-    if i >= 24 {
+    if i >= 36 {
         return 0;
     }
     let own = summary::at(sums, i / 3);
@@ -219,7 +219,7 @@ fn told(got: Got) -> cells::Cells {
     let sums = got.sums;
     let count = test_cells::mul(got.n, 3);
     let mut cells = [0usize; cells::CELLS];
-    for i in 0..24 {
+    for i in 0..36 {
         let number = test_cells::pick(i < count, of_sums(sums, i), 0);
         cells[i + cells::SUMS] = number;
     }

@@ -20,7 +20,7 @@ fn put_area(due: &mut cells::Cells, slots: &[usize], most: usize) {
 // The outcome, the number beside it, the summaries, and that every label byte should be right.
 fn told(told: test_listing::Told, sums: &[usize]) -> cells::Cells {
     let mut due = [0usize; cells::CELLS];
-    for i in 0..24 {
+    for i in 0..36 {
         cells::put(
             &mut due,
             test_cells::add(cells::SUMS, i),
@@ -41,8 +41,8 @@ fn words(case: &cells::Cells, due: &cells::Cells) -> usize {
 }
 
 pub(crate) fn answer(case: &cells::Cells) -> cells::Cells {
-    let mut slots = [0usize; 64];
-    let mut sums = [0usize; 24];
+    let mut slots = [0usize; 80];
+    let mut sums = [0usize; 36];
     let a = test_listing::answer(case, &mut slots, &mut sums);
     let mut due = told(a, &sums);
     let words = words(case, &due);
@@ -53,7 +53,7 @@ pub(crate) fn answer(case: &cells::Cells) -> cells::Cells {
 // The greatest label count of a round.
 fn greatest(due: &cells::Cells) -> usize {
     let mut most = 0;
-    for j in 0..8 {
+    for j in 0..12 {
         let count = cells::get(due, test_cells::place(j, 3, cells::SUMS + 2));
         most = test_cells::pick(most < count, count, most);
     }

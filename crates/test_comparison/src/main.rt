@@ -126,7 +126,7 @@ fn all() -> cells::Cells {
 fn show(tally: &cells::Cells) {
     line(b"agreed, of ", CASES, cells::get(tally, AGREED));
     lines(b"outcome ", tally, 0, 0, OUTCOMES);
-    lines(b"outcome 11 in round ", tally, REFUSED, 1, 9);
+    lines(b"outcome 11 in round ", tally, REFUSED, 1, 13);
     line(b"thresholds in turn, of ", 1000, cells::get(tally, IN_TURN));
     line(
         b"rounds reached with closed arcs, of ",

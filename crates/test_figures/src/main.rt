@@ -44,8 +44,8 @@ fn run_only() {
     one_arc(b"length 1000000", b"0 1 1000000\n");
     one_arc(b"length 1000001", b"0 1 1000001\n");
     on_t(b"k 0", b"4 5 0 3 0 1 2\n");
-    on_t(b"k 8", b"4 5 0 3 8 1 2\n");
-    on_t(b"k 9", b"4 5 0 3 9 1 2\n");
+    on_t(b"k 12", b"4 5 0 3 12 1 2\n");
+    on_t(b"k 13", b"4 5 0 3 13 1 2\n");
     whole(b"empty table", b"2 0 0 1 1 1 2\n");
     one_arc(b"2 and 3 in one record", b"2 2 1\n");
     one_arc(b"3 and 4 in one record", b"1 1 0\n");

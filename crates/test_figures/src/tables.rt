@@ -35,14 +35,14 @@ fn put_arcs(t: &mut [u8]) {
     }
 }
 
-// "nodes: 1 to 4,096"
+// "Nodes go to 65,536"
 fn nodes() {
     let mut t = [0u8; 16];
     table::arc::put(&mut t, 0, 0, 1, 1);
     outcome(b"nodes 0", &t, 0);
     outcome(b"nodes 2", &t, 2);
-    outcome(b"nodes 4096", &t, 4096);
-    outcome(b"nodes 4097", &t, 4097);
+    outcome(b"nodes 65536", &t, 65536);
+    outcome(b"nodes 65537", &t, 65537);
     outcome(b"empty table", &t[..0], 1);
 }
 
@@ -68,17 +68,12 @@ fn bytes() {
     outcome(b"bytes 17", &t, 4);
 }
 
-// "arc records: 0 to 16,384"
-fn most_records() {
-    let mut t = [0u8; 262144];
+// "arcs to 262,144": as many as an array of a program has room for. tests/calls.c has the most, and
+// one more.
+fn many_records() {
+    let mut t = [0u8; 524288];
     put_arcs(&mut t);
-    outcome(b"records 16384", &t, 2);
-}
-
-fn one_record_more() {
-    let mut t = [0u8; 262160];
-    put_arcs(&mut t);
-    outcome(b"records 16385", &t, 2);
+    outcome(b"records 32768", &t, 2);
 }
 
 // An arc that is good but for byte `at`.
@@ -136,7 +131,7 @@ fn orders() {
 }
 
 // The parts that hold the arcs of each node; none for node 4, and none where the table has a fault:
-// 2 with 3 nodes, 13 with 4,097.
+// 2 with 3 nodes, 13 with 65,537.
 fn parts(t: &[u8]) {
     part(b"part of node 0", t, 4, 0);
     part(b"part of node 1", t, 4, 1);
@@ -144,7 +139,7 @@ fn parts(t: &[u8]) {
     part(b"part of node 3", t, 4, 3);
     part(b"part of node 4", t, 4, 4);
     part(b"part of node 0 of 3", t, 3, 0);
-    part(b"part of node 0 of 4097", t, 4097, 0);
+    part(b"part of node 0 of 65537", t, 65537, 0);
 }
 
 // "Table T"
@@ -163,8 +158,7 @@ pub(crate) fn all() {
     nodes();
     lengths();
     bytes();
-    most_records();
-    one_record_more();
+    many_records();
     fields();
     two_faults();
     orders();

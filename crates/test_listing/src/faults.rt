@@ -14,7 +14,7 @@ const NO_TABLE: usize = 13 * TOLD;
 
 const MOST_LENGTH: usize = 1000000;
 
-const MOST_NODES: usize = 4096;
+const MOST_NODES: usize = 65536;
 
 const MOST_B: usize = 1000;
 

@@ -5,7 +5,7 @@ pub(crate) const MOST_ARCS: usize = 24;
 
 pub(crate) const MOST_ROWS: usize = 1000;
 
-pub(crate) const MOST_ROUNDS: usize = 8;
+pub(crate) const MOST_ROUNDS: usize = 12;
 
 // How many rounds have an answer.
 pub(crate) const FOUND: usize = 0;

@@ -58,7 +58,7 @@ fn value(case: &cells::Cells, kind: usize) -> usize {
     let arcs = cells::get(case, cells::ARC_COUNT);
     match kind {
         7 => 0,
-        8 => 4097,
+        8 => 65537,
         9 => 1,
         10 => test_cells::less_one(arcs),
         11 => test_cells::add(arcs, 1),

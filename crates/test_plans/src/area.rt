@@ -13,13 +13,13 @@ const MOST_BYTES: usize = 1312;
 
 pub(crate) const JUNK: u8 = 85;
 
-pub(crate) const WORDS: usize = 288;
+pub(crate) const WORDS: usize = 400;
 
 pub(crate) type Words = [u32; WORDS];
 
 pub(crate) const WORDS_FROM: usize = 16;
 
-pub(crate) const MOST_WORDS: usize = 256;
+pub(crate) const MOST_WORDS: usize = 368;
 
 // An arc number, so that a word read from outside what is lent is seen.
 pub(crate) const JUNK_WORD: usize = 77;
@@ -27,7 +27,7 @@ pub(crate) const JUNK_WORD: usize = 77;
 pub(crate) const NONE: usize = 4294967295;
 
 // An arc number is below it.
-pub(crate) const ARCS: usize = 16384;
+pub(crate) const ARCS: usize = 262144;
 
 pub(crate) fn wide(x: u32) -> usize {
     x as usize
@@ -77,7 +77,7 @@ pub(crate) fn end(bytes: usize) -> usize
 }
 
 pub(crate) fn words_end(words: usize) -> usize
-    ensures { λ r. ⌜ (16 ≤ r) × (r ≤ 272) ⌝ }
+    ensures { λ r. ⌜ (16 ≤ r) × (r ≤ 384) ⌝ }
 {
     if words < MOST_WORDS {
         WORDS_FROM + words

@@ -2,7 +2,7 @@
 // of records, for each record which part stands in it, and for each plan its number and its routes.
 // An index past the end reads 0 and stores nothing.
 
-pub(crate) const CELLS: usize = 4096;
+pub(crate) const CELLS: usize = 6144;
 
 pub(crate) type Cells = [usize; CELLS];
 
@@ -31,14 +31,14 @@ const RECORDS: usize = FIRST;
 // times the rank and the part.
 const PARTS: usize = FIRST + 1;
 
-pub(crate) const PLACES: usize = 64;
+pub(crate) const PLACES: usize = 128;
 
 // A plan: its number, how many routes it has, and for each the number of its arcs and those.
 const PLANS: usize = 136;
 
 pub(crate) const INDEXES: usize = 15;
 
-const PLAN: usize = 260;
+const PLAN: usize = 388;
 
 const ROUTE: usize = 32;
 

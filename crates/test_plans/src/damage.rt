@@ -17,11 +17,11 @@ const MANNERS: usize = 12;
 
 // The other byte.
 fn another(call: usize, old: u8) -> u8 {
-    let x = draw::below(call, 30, 12);
+    let x = draw::below(call, 30, 16);
     let up = test_cells::add(old as usize, 1);
     let any = draw::below(call, 31, 256);
-    let near = test_cells::pick(x == 9, up, test_cells::pick(x == 10, 255, any));
-    (test_cells::pick(x < 9, x, near) % 256) as u8
+    let near = test_cells::pick(x == 13, up, test_cells::pick(x == 14, 255, any));
+    (test_cells::pick(x < 13, x, near) % 256) as u8
 }
 
 // Byte j of a record whose last arc of six is lost.
@@ -124,7 +124,7 @@ fn counted(file: &area::File, i: usize) -> usize {
 fn misformed(file: &area::File, i: usize) -> bool {
     let used = used(file, i);
     let counted = counted(file, i);
-    let fields = (rank(file, i) > 7) | (used < 1) | (used > 6) | (counted % 10 < 6);
+    let fields = (rank(file, i) > 11) | (used < 1) | (used > 6) | (counted % 10 < 6);
     let taken = plan(file, i) > 0;
     (taken & fields) | (!taken & (counted > 9))
 }

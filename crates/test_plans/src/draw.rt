@@ -76,7 +76,7 @@ fn fault(call: usize) -> usize {
 
 const NO_ROUTES: usize = 1;
 
-const NINE: usize = 2;
+const THIRTEEN: usize = 2;
 
 const TOO_WIDE: usize = 3;
 
@@ -95,10 +95,10 @@ const EARLY: usize = 9;
 const LATE: usize = 10;
 
 fn routes(call: usize) -> usize {
-    let most = test_cells::pick(once_in(call, 5, 4), 8, 3);
+    let most = test_cells::pick(once_in(call, 5, 4), 12, 3);
     let any = test_cells::add(below(call, 6, most), 1);
-    let nine = test_cells::pick(fault(call) == NINE, 9, any);
-    test_cells::pick(fault(call) == NO_ROUTES, 0, nine)
+    let more = test_cells::pick(fault(call) == THIRTEEN, 13, any);
+    test_cells::pick(fault(call) == NO_ROUTES, 0, more)
 }
 
 fn width(call: usize) -> usize {
@@ -182,22 +182,22 @@ pub(crate) fn request(cells: &cells::Cells, call: usize, kind: usize) -> Asked {
 fn arcs(call: usize, width: usize, r: usize) -> usize {
     let most = test_cells::pick(width < 20, width, 20);
     let any = test_cells::add(below(call, test_cells::add(r, 32), most), 1);
-    test_cells::pick(once_in(call, test_cells::add(r, 16), 3), most, any)
+    test_cells::pick(once_in(call, test_cells::add(r, 48), 3), most, any)
 }
 
 // An arc number: any, or the first or the last.
 fn arc(call: usize, i: usize) -> usize {
-    let any = below(call, test_cells::add(ARCS, i % 192), area::ARCS);
-    let edge = test_cells::mul(any % 2, 16383);
-    test_cells::pick(any % 16 < 2, edge, any)
+    let high = below(call, test_cells::add(ARCS, i % 192), area::ARCS / 8);
+    let edge = test_cells::mul(high % 2, area::ARCS - 1);
+    test_cells::pick(high % 16 < 2, edge, test_cells::place(high, 8, i % 8))
 }
 
 // A number that is no arc's.
 fn no_arc(call: usize) -> usize {
     match below(call, 15, 3) {
-        0 => 16384,
+        0 => area::ARCS,
         1 => 4294967294,
-        _ => test_cells::add(below(call, 24, 32768), 16384),
+        _ => test_cells::add(below(call, 24, 32768), area::ARCS),
     }
 }
 

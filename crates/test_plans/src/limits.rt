@@ -15,7 +15,7 @@ pub(crate) fn stored(width: usize) -> usize {
     let mut words = [4294967295u32; WIDE];
     let mut file = [0u8; 32];
     let e = end(width);
-    words[8] = 16383;
+    words[8] = 262143;
     let told = plan_store::store(&mut file, 1, &words[8..e], 1, area::narrow(width));
     area::wide(told.outcome)
 }

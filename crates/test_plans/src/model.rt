@@ -35,7 +35,7 @@ fn counted(asked: draw::Asked, words: &area::Words) -> usize {
 
 // 17 of a store.
 fn wrong_request(asked: draw::Asked, misplaced: usize) -> bool {
-    let routes = (asked.plan == 0) | (asked.routes == 0) | (asked.routes > 8);
+    let routes = (asked.plan == 0) | (asked.routes == 0) | (asked.routes > 12);
     let due = test_cells::mul(asked.routes, asked.width);
     let size = (asked.width == 0) | (asked.width > 65535) | (asked.words != due);
     routes | size | (misplaced > 0)
@@ -180,7 +180,7 @@ pub(crate) fn change(cells: &mut cells::Cells, asked: draw::Asked, words: &area:
 // Word j of the record that holds a part, of eight; `part` is one less than what the cells hold.
 fn number(cells: &cells::Cells, part: usize, j: usize) -> usize {
     let index = part / cells::PLACES;
-    let rank = part / 8 % 8;
+    let rank = part / 8 % 16;
     let from = test_cells::mul(6, part % 8);
     let left = area::past(cells::arcs(cells, index, rank), from);
     let used = test_cells::pick(left > 6, 6, left);

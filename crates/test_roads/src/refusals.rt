@@ -113,7 +113,7 @@ fn sizes() {
     sized(b"35 bytes for 36:", TABLE, 3, 35);
     sized(b"no arcs in 9 bytes:", 0, 1, 9);
     sized(b"nodes 0:", TABLE, 0, area::AMPLE);
-    sized(b"nodes 4097:", TABLE, 4097, area::AMPLE);
+    sized(b"nodes 65537:", TABLE, 65537, area::AMPLE);
     sized(b"table of 17 bytes:", 17, 3, area::AMPLE);
 }
 

@@ -60,7 +60,7 @@ fn records(case: usize) -> usize {
 }
 
 fn routes(case: usize) -> usize {
-    let most = test_cells::pick(once_in(case, 4, 2), 3, 8);
+    let most = test_cells::pick(once_in(case, 4, 2), 3, 12);
     test_cells::add(below(case, 5, most), 1)
 }
 
@@ -86,7 +86,7 @@ fn words(case: usize) -> usize {
 }
 
 fn summaries(case: usize) -> usize {
-    test_cells::pick(once_in(case, 11, 2), routes(case), 8)
+    test_cells::pick(once_in(case, 11, 2), routes(case), 12)
 }
 
 // Another node than v: number x of them.

@@ -46,7 +46,7 @@ fn summary(list: &cells::Cells, i: usize) -> usize {
 }
 
 fn put_sums(due: &mut cells::Cells, list: &cells::Cells) {
-    for i in 0..24 {
+    for i in 0..36 {
         cells::put(due, test_cells::add(cells::SUMS, i), summary(list, i));
     }
 }

@@ -12,7 +12,7 @@ const WORK_FROM: usize = 48;
 
 const WORK_NODE: usize = 64;
 
-pub(crate) const AREA: usize = 64;
+pub(crate) const AREA: usize = 80;
 
 pub(crate) const AREA_FROM: usize = 8;
 
@@ -158,7 +158,7 @@ fn work_to(case: &cells::Cells) -> usize
 }
 
 fn area_to(case: &cells::Cells) -> usize
-    ensures { λ r. ⌜ (8 ≤ r) × (r ≤ 64) ⌝ }
+    ensures { λ r. ⌜ (8 ≤ r) × (r ≤ 80) ⌝ }
 {
     end(AREA_FROM, cells::get(case, cells::WORDS), AREA)
 }
@@ -181,7 +181,7 @@ fn work_right(work: &[u8; WORK], end: usize) -> usize {
 
 // Number i of the summaries.
 fn of_sums(sums: summary::Sums, i: usize) -> usize {
-    if i >= 24 {
+    if i >= 36 {
         return 0;
     }
     let own = summary::at(sums, i / 3);
@@ -198,7 +198,7 @@ fn told(got: Got) -> cells::Cells {
     let sums = got.sums;
     let count = test_cells::mul(got.n, 3);
     let mut cells = [0usize; cells::CELLS];
-    for i in 0..24 {
+    for i in 0..36 {
         let number = test_cells::pick(i < count, of_sums(sums, i), 0);
         cells[i + cells::SUMS] = number;
     }

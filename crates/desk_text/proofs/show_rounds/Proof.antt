@@ -1,4 +1,4 @@
--- A query that reached the rounds has a node and at most eight routes, none longer than a slot, so the slots fit in the area. Its summaries
+-- A query that reached the rounds has a node and at most twelve routes, none longer than a slot, so the slots fit in the area. Its summaries
 -- and its area show its rounds, and the lines printed of any rounds that they show are therefore its own.
 use native.Mathlib.Omega.{arith}
 use borrow.Author.Needs.{needs}

@@ -58,7 +58,7 @@ use Rattle.query.proofs.core as core
 use Rattle.query.proofs.core.Symbol as core-def
 use Rattle.query.proofs.core.Symbol.{name as #query·core}
 use Rattle.query.proofs.core.Met as core-thm
-use Rattle.ojeonbut.proofs.AnswerLaws.{mach, mach-sums, mach-told, is-told, is-sums, n-fits, replied}
+use Rattle.ojeonbut.proofs.AnswerLaws.{after-sums, mach, mach-sums, mach-told, is-told, is-sums, n-fits, replied}
 use Rattle.ojeonbut.proofs.ojeonbut_query.Key.{name as #ojeonbut·query}
 use Rattle.ojeonbut.proofs.ojeonbut_query as f
 use Rattle.ojeonbut.proofs.ojeonbut_query.Statement as stated
@@ -179,7 +179,7 @@ module _ {M : Type 1} (𝓤 : URA M) (H : Heap 𝓤) (A : Atoms 𝓤) (W : Given
         rewrite ! 23 (λ (v : Val). ‵ (fat fullShare G′.mir l₁₂ 0 v)) (ap only (LL.tells G.the-type G′.the-laws g _ is′)) refl $
         let is : Is G.the-row g (mach g ∷ []) = subst (λ (us : List Val). Is G.the-row g us) (LL.tells G.the-type G′.the-laws g _ is′) is′ in
         assigns ! (of-opd ! (load ! (from ! (fld ! {d = 8} refl (stop !))) (look-in ! 23 (sub ! 1 {d = 8} refl (whole !))))) (from ! (stop !)) (init ! 21 refl (LL.lawful S.the-type S′.the-laws 𝓤 H A W .typed (g .sums) _ (is-sums g is) .0)) $
-        assigns ! (of-opd ! (load ! (from ! (fld ! {d = 104} refl (stop !))) (look-in ! 23 (sub ! 2 {d = 104} refl (whole !))))) (from ! (stop !)) (init ! 19 refl (tt, record { fits = n-fits g is })) $
+        assigns ! (of-opd ! (load ! (from ! (fld ! {d = after-sums} refl (stop !))) (look-in ! 23 (sub ! 2 {d = after-sums} refl (whole !))))) (from ! (stop !)) (init ! 19 refl (tt, record { fits = n-fits g is })) $
         assigns ! (addr ! (from ! (fld ! refl (hop ! (look-in ! 27 (sub ! 0 refl (whole !))) (stop !))))) (from ! (stop !)) (init ! 7 refl (tt, tt)) $
         assigns ! (agg ! (and-then ! (load ! (from ! (stop !)) (look ! 7 refl)) (and-then ! (load ! (from ! (fld ! refl (stop !))) (look-in ! 27 (sub ! 1 refl (whole !)))) (no-more !)))) (from ! (stop !)) (init ! 5 refl (tt, (tt, (record { fits = sums-fits .0 }, tt)))) $
         move ! (3 ∷ 4 ∷ []) $ use2 W (raw (Write 𝓤 H A mem run .pre (to-write g))) (goes-write g is (said .few, said .fits)) $

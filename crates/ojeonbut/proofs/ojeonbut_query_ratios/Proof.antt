@@ -70,8 +70,8 @@ use Rattle.query_ratios.proofs.core_ratios as core
 use Rattle.query_ratios.proofs.core_ratios.Symbol as core-def
 use Rattle.query_ratios.proofs.core_ratios.Symbol.{name as #query-ratios·core-ratios}
 use Rattle.query_ratios.proofs.core_ratios.Met as core-thm
-use Rattle.ojeonbut.proofs.AnswerLaws.{mach-sums, mach-told}
-use Rattle.ojeonbut.proofs.RatedLaws.{mach-rated, mach-rows, is-told, is-sums, is-rows, n-fits, replied-ratios}
+use Rattle.ojeonbut.proofs.AnswerLaws.{after-sums, mach-sums, mach-told}
+use Rattle.ojeonbut.proofs.RatedLaws.{after-rows, mach-rated, mach-rows, is-told, is-sums, is-rows, n-fits, replied-ratios}
 use Rattle.ojeonbut.proofs.ojeonbut_query_ratios.Key.{name as #ojeonbut·query-ratios}
 use Rattle.ojeonbut.proofs.ojeonbut_query_ratios as f
 use Rattle.ojeonbut.proofs.ojeonbut_query_ratios.Statement as stated
@@ -218,8 +218,8 @@ module _ {M : Type 1} (𝓤 : URA M) (H : Heap 𝓤) (A : Atoms 𝓤) (W : Given
         rewrite ! 31 (λ (v : Val). ‵ (fat fullShare R′.mir l₁₅ 0 v)) (ap only (LL.tells R.the-type R′.the-laws g _ is′)) refl $
         let is : Is R.the-row g (mach-rated g ∷ []) = subst (λ (us : List Val). Is R.the-row g us) (LL.tells R.the-type R′.the-laws g _ is′) is′ in
         assigns ! (of-opd ! (load ! (from ! (fld ! {d = 8} refl (stop !))) (look-in ! 31 (sub ! 1 {d = 8} refl (whole !))))) (from ! (stop !)) (init ! 29 refl (LL.lawful S.the-type S′.the-laws 𝓤 H A W .typed (g .sums) _ (is-sums g is) .0)) $
-        assigns ! (of-opd ! (load ! (from ! (fld ! {d = 104} refl (stop !))) (look-in ! 31 (sub ! 2 {d = 104} refl (whole !))))) (from ! (stop !)) (init ! 27 refl (LL.lawful Q.the-type Q′.the-laws 𝓤 H A W .typed (g .rows) _ (is-rows g is) .0)) $
-        assigns ! (of-opd ! (load ! (from ! (fld ! {d = 232} refl (stop !))) (look-in ! 31 (sub ! 3 {d = 232} refl (whole !))))) (from ! (stop !)) (init ! 25 refl (tt, record { fits = n-fits g is })) $
+        assigns ! (of-opd ! (load ! (from ! (fld ! {d = after-sums} refl (stop !))) (look-in ! 31 (sub ! 2 {d = after-sums} refl (whole !))))) (from ! (stop !)) (init ! 27 refl (LL.lawful Q.the-type Q′.the-laws 𝓤 H A W .typed (g .rows) _ (is-rows g is) .0)) $
+        assigns ! (of-opd ! (load ! (from ! (fld ! {d = after-rows} refl (stop !))) (look-in ! 31 (sub ! 3 {d = after-rows} refl (whole !))))) (from ! (stop !)) (init ! 25 refl (tt, record { fits = n-fits g is })) $
         assigns ! (addr ! (from ! (fld ! refl (hop ! (look-in ! 39 (sub ! 0 refl (whole !))) (stop !))))) (from ! (stop !)) (init ! 13 refl (tt, tt)) $
         assigns ! (agg ! (and-then ! (load ! (from ! (stop !)) (look ! 13 refl)) (and-then ! (load ! (from ! (fld ! refl (stop !))) (look-in ! 39 (sub ! 1 refl (whole !)))) (no-more !)))) (from ! (stop !)) (init ! 11 refl (tt, (tt, (record { fits = sums-fits .0 }, tt)))) $
         move ! (4 ∷ 6 ∷ []) $ use2 W (raw (Write 𝓤 H A mem run .pre (to-write g))) (goes-write g is (said .cored .few, le-trans (said .cored .fits) (min-le-left lent rated))) $

@@ -1,5 +1,5 @@
 -- The slots are too small where a route is longer than their width, or where the area is shorter than the slots; else each route is laid in its slot. A plan has
--- eight routes at most, so the sum of the widths does not overflow.
+-- twelve routes at most, so the sum of the widths does not overflow.
 use mathlib.Core.Path.{_≡_, sym, ap, _∙_}
 use mathlib.Core.Bool.{false}
 use Prim.Native.Nat.{_*_, _≤_}

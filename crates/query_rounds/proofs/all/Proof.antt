@@ -6,6 +6,7 @@ use Prim.Native.Nat.{ℕ, _+_, _-_}
 use native.Mathlib.Omega.{arith}
 use lib.ListN.{length}
 use borrow.Author.Needs.{needs}
+use Rattle.net.specs.Limits.{mostRoutes}
 use Rattle.search_ask.specs.Ask.{queryFor, width}
 use Rattle.query_rounds.specs.Progress.{Progress, progress}
 use Rattle.query_rounds.proofs.RoundsLaws.{Gone, gone-start, gone-step, gone-underway, gone-end}
@@ -82,7 +83,7 @@ tell-requires c κs =
 
 -- the rows are as long as those of zeros
 abbrev rows : (c : tie.After-tell Inv-loop μ-loop) → let m = ended (c .before) .before .before in
-    (length (m .loop .lens) ≡ 8) × (length (m .loop .arcs) ≡ 8) × (length (m .loop .counts) ≡ 8)
+    (length (m .loop .lens) ≡ mostRoutes) × (length (m .loop .arcs) ≡ mostRoutes) × (length (m .loop .counts) ≡ mostRoutes)
 rows c = ended (c .before) .before .before .loop .inv .underway .rows
 
 abbrev zeros : (c : tie.After-tell Inv-loop μ-loop) → tie.Start Inv-loop μ-loop

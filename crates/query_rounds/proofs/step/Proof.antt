@@ -7,6 +7,7 @@ use mathlib.Core.Path.{_≡_, refl, sym, ap, subst, _∙_}
 use mathlib.Core.List.{List}
 use Prim.Native.Nat.{ℕ, suc, _<_, _/_}
 use lib.ListN.{length}
+use Rattle.net.specs.Limits.{mostRoutes}
 use Rattle.net.specs.Round.{Query}
 use Rattle.labels.specs.Field.{labelBytes}
 use Rattle.labels.proofs.RowLaws.{length-labelled}
@@ -70,7 +71,7 @@ stepping a =
 same-labels : (a : tie.After-round) → length (labels-left a) ≡ length (start a .args .labels .now)
 same-labels a = ap length (rounded a .bytes) ∙ length-clear _ _ ∙ length-labelled (query a .net) (query a .s) _ (start a .args .labels .now) _
 
-in-row : (s : tie.Start) → s .args .r < 8
+in-row : (s : tie.Start) → s .args .r < mostRoutes
 in-row s = omega (arith, s .pre .1 .going refl, s .pre .0 .few)
 
 round-requires : tie.Need-round-requires

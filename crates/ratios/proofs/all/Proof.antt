@@ -1,5 +1,5 @@
--- The rounds with an answer are looked at in order. Invariant: the first i of the n records are those of the first i routes, the others zeros, and the rows have 8
--- places. A turn stores the record of the next route (`rows-turn`).
+-- The rounds with an answer are looked at in order. Invariant: the first i of the n records are those of the first i routes, the others zeros, and the rows have a
+-- place for each route that may be wanted. A turn stores the record of the next route (`rows-turn`).
 use mathlib.Core.Path.{_≡_, refl, sym, ap, subst, _∙_}
 use mathlib.Core.List.{List, []}
 use Prim.Native.Nat.{ℕ, _+_, _-_, _≤_, _<_}
@@ -39,20 +39,20 @@ net s = netFor (s .args .ask) (s .args .table .now) []
 abbrev routes : tie.Start Inv-loop μ-loop → ℕ → List (List ℕ)
 routes s i = earlierIn (width (s .args .ask)) i (s .args .area .now)
 
--- the summaries are rows of 8
-eight : (s : tie.Start Inv-loop μ-loop) → length (s .args .sums .arcs) ≡ 8
-eight s = search needs
+-- the summaries have as many
+row-length : (s : tie.Start Inv-loop μ-loop) → length (s .args .sums .arcs) ≡ mostRoutes
+row-length s = search needs
 
 answered-requires : tie.Need-answered-requires Inv-loop μ-loop
 answered-requires c κs =
     let s = c .before .before .before .before .before in
-    omega (arith, eight s, s .pre .few)
+    omega (arith, row-length s, s .pre .few)
 
 loop-holds : tie.Need-loop-holds Inv-loop μ-loop
 unfolding ofBits earlierIn upFrom
 loop-holds c =
     let s = c .before .before .before .before .before .before in
-    (search needs, refl, refl, rows-start (net s) 8 (s .args .n) (s .pre .few))
+    (search needs, refl, refl, rows-start (net s) mostRoutes (s .args .n) (s .pre .few))
 
 of-requires : tie.Need-of-requires Inv-loop μ-loop
 of-requires c κs =
@@ -83,7 +83,7 @@ turned a h =
     let s = start a in
     let t = a .loop .t in
     let i = a .loop .i in
-    let few : s .args .n ≤ 8 = s .pre .few in
+    let few : s .args .n ≤ mostRoutes = s .pre .few in
     subst (Rowed (net s) (setAt t i (found a)) (s .args .n)) (sym (earlier-snoc (width (s .args .ask)) i (s .args .area .now)))
     (rows-turn (net s) t (s .args .n) i (routes s i) (routeAt (s .args .ask) (s .args .area .now) i) (length-earlierIn (width (s .args .ask)) i (s .args .area .now))
     (omega (arith, h, a .before .answered .ensures, answered-most (s .args .sums .arcs) (s .args .n))) (omega (arith, few, a .loop .inv .1)) (omega (arith, few, a .loop .inv .2)) (a .loop .inv .3))

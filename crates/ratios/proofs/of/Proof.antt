@@ -1,5 +1,5 @@
 -- The greatest share is the one picked, and the lengths of the route and of the first one stand in `lens`; the first of the routes before route i, or route 0
--- itself, is the route of slot 0 (`first-route`). Both parts of both fractions are below 2 ^ 32, and the lower ones above 0 (`greatest-small`, `Routes .positive`).
+-- itself, is the route of slot 0 (`first-route`). Both parts of both fractions are below 2 ^ 40, and the lower ones above 0 (`greatest-small`, `Routes .positive`).
 use mathlib.Core.Path.{_≡_, sym, ap, ap₂, _∙_}
 use Prim.Native.Nat.{ℕ}
 use native.Mathlib.Omega.{arith}

@@ -1,4 +1,4 @@
--- Both numbers are below 2 ^ 32, so each cast is exact (`cast-fits`), and the one division is that of the two whole numbers (`divides`).
+-- Both numbers are below 2 ^ 40, so each cast is exact (`cast-fits`), and the one division is that of the two whole numbers (`divides`).
 use Rattle.ratios.proofs.QuotientLaws.{cast-fits, divides}
 use Rattle.ratios.proofs.quotient.Statement.{statement}
 use Rattle.ratios.proofs.quotient.Tie as tie

@@ -1,4 +1,4 @@
--- The loop adds one line's bytes more. Invariant: `bytes` is the length of the first line and of the lines of the first i arcs. At most 16,384 lines of at most 65
+-- The loop adds one line's bytes more. Invariant: `bytes` is the length of the first line and of the lines of the first i arcs. At most 262,144 lines of at most 65
 -- bytes do not overflow; at the end the first i arcs are all.
 use mathlib.Core.Path.{_≡_, ap}
 use Prim.Native.Nat.{_+_, _-_, _≤_}

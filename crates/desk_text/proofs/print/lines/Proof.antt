@@ -1,5 +1,5 @@
 -- The loop's invariant: the lines of the first j answers stand in the buffer, which is as long as before. A slot's part stands in the area, as the slots of
--- all answers do, and 8 lines of at most 1023 arcs have their room. The measure is what is left of the count.
+-- all answers do, and 12 lines of at most 1023 arcs have their room. The measure is what is left of the count.
 use mathlib.Core.Path.{_≡_, refl, ap}
 use Prim.Native.Nat.{_+_, _*_, _≤_, _-_}
 use native.Mathlib.Omega.{arith}

@@ -1,4 +1,4 @@
--- The slots in order: what the routes so far take, and what those from slot r on take, is what all take. At eight slots of 65,535 words it stays small.
+-- The slots in order: what the routes so far take, and what those from slot r on take, is what all take. At twelve slots of 65,535 words it stays small.
 use mathlib.Core.Path.{_≡_, sym, ap, _∙_}
 use mathlib.Core.List.{List}
 use Prim.Native.Nat.{ℕ, _+_, _-_, _*_, _/_, _≤_}

@@ -1,5 +1,5 @@
 -- The routes before route i are looked at in order. Invariant: f is the greatest share with the first j. A turn takes the greater of it and the next share
--- (`greatest-turn`); both parts of the two are below 2 ^ 32 (`greatest-small`, `share-small`), as `greater_of` requires.
+-- (`greatest-turn`); both parts of the two are below 2 ^ 40 (`greatest-small`, `share-small`), as `greater_of` requires.
 use mathlib.Core.Path.{_≡_, refl, ap, _∙_}
 use mathlib.Core.List.{List, []}
 use Prim.Native.Nat.{ℕ, _-_, _≤_}

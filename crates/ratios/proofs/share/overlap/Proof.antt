@@ -1,5 +1,5 @@
 -- The arcs are looked at in order. Invariant: the total is the overlap of the first i arcs. A turn adds what the next arc shares (`overlap-turn`), and the total
--- is at most 4,096 times 1,000,000, as the overlap of any part of a route is.
+-- is at most 65,536 times 1,000,000, as the overlap of any part of a route is.
 use mathlib.Core.Path.{_≡_, refl, ap, ap₂, _∙_}
 use mathlib.Core.List.{[]}
 use Prim.Native.Nat.{_+_, _-_, _≤_, _<_}

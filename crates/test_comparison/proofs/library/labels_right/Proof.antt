@@ -8,7 +8,7 @@ abbrev Inv-loop : tie.InvT-loop
 Inv-loop labels end i₀ i = Unit {0}
 
 abbrev μ-loop : tie.MeasureT-loop
-μ-loop labels end i₀ i = 6400 - i
+μ-loop labels end i₀ i = 8528 - i
 
 pub labels-right-spec : {M : Type 1} → statement M
 labels-right-spec =

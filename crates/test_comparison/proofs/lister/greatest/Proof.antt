@@ -8,7 +8,7 @@ abbrev Inv-loop : tie.InvT-loop
 Inv-loop due most₀ j₀ most j = Unit {0}
 
 abbrev μ-loop : tie.MeasureT-loop
-μ-loop due most₀ j₀ most j = 8 - j
+μ-loop due most₀ j₀ most j = 12 - j
 
 pub greatest-spec : {M : Type 1} → statement M
 greatest-spec =

@@ -8,7 +8,7 @@ abbrev Inv-loop : tie.InvT-loop
 Inv-loop cells₀ records i₀ cells i = Unit {0}
 
 abbrev μ-loop : tie.MeasureT-loop
-μ-loop cells₀ records i₀ cells i = 4096 - i
+μ-loop cells₀ records i₀ cells i = 6144 - i
 
 abbrev Inv-loop2 : tie.InvT-loop2
 Inv-loop2 cells₀ records p₀ cells p = Unit {0}

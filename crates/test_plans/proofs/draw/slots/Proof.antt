@@ -8,7 +8,7 @@ abbrev Inv-loop : tie.InvT-loop
 Inv-loop asked words₀ i₀ words i = Unit {0}
 
 abbrev μ-loop : tie.MeasureT-loop
-μ-loop asked words₀ i₀ words i = 288 - i
+μ-loop asked words₀ i₀ words i = 400 - i
 
 pub slots-spec : {M : Type 1} → statement M
 slots-spec =

@@ -8,7 +8,7 @@ abbrev Inv-loop : tie.InvT-loop
 Inv-loop cells asked due left n₀ i₀ n i = Unit {0}
 
 abbrev μ-loop : tie.MeasureT-loop
-μ-loop cells asked due left n₀ i₀ n i = 288 - i
+μ-loop cells asked due left n₀ i₀ n i = 400 - i
 
 pub words-off-spec : {M : Type 1} → statement M
 words-off-spec =

@@ -8,7 +8,7 @@ abbrev Inv-loop : tie.InvT-loop
 Inv-loop cells asked due left i₀ i = Unit {0}
 
 abbrev μ-loop : tie.MeasureT-loop
-μ-loop cells asked due left i₀ i = 288 - i
+μ-loop cells asked due left i₀ i = 400 - i
 
 pub slots-spec : {M : Type 1} → statement M
 slots-spec =

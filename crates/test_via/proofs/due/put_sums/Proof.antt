@@ -8,7 +8,7 @@ abbrev Inv-loop : tie.InvT-loop
 Inv-loop due₀ list i₀ due i = Unit {0}
 
 abbrev μ-loop : tie.MeasureT-loop
-μ-loop due₀ list i₀ due i = 24 - i
+μ-loop due₀ list i₀ due i = 36 - i
 
 pub put-sums-spec : {M : Type 1} → statement M
 put-sums-spec =

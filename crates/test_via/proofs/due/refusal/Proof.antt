@@ -8,7 +8,7 @@ abbrev Inv-loop : tie.InvT-loop
 Inv-loop due₀ i₀ due i = Unit {0}
 
 abbrev μ-loop : tie.MeasureT-loop
-μ-loop due₀ i₀ due i = 64 - i
+μ-loop due₀ i₀ due i = 80 - i
 
 pub refusal-spec : {M : Type 1} → statement M
 refusal-spec =

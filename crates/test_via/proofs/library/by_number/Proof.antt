@@ -8,7 +8,7 @@ abbrev Inv-loop : tie.InvT-loop
 Inv-loop order₀ i₀ order i = Unit {0}
 
 abbrev μ-loop : tie.MeasureT-loop
-μ-loop order₀ i₀ order i = 96 - i
+μ-loop order₀ i₀ order i = 128 - i
 
 pub by-number-spec : {M : Type 1} → statement M
 by-number-spec =
