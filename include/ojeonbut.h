@@ -34,7 +34,7 @@ extern "C" {
 #define OJEONBUT_PLAN_RECORD 32 /* bytes of a record in a file of accepted plans */
 #define OJEONBUT_PLAN_WIDTH 65535 /* the most words of a slot that a plan is stored from */
 
-/* The outcomes. `number` is what stands beside each in ojeonbut_reply; where none is named it is 0. 12 is the desk program's, for malformed text: no call gives it. */
+/* The outcomes. `number` is what stands beside each in ojeonbut_reply; where none is named it is 0. 12 and 25 are the desk program's, for malformed text and for its old form: no call gives them. */
 enum ojeonbut_outcome {
     OJEONBUT_FOUND = 0,     /* all k routes found; from ojeonbut_pair: the pair found; from ojeonbut_check: the table has no fault; from the calls for road files and for plans: done; number, from ojeonbut_plan_fetch: the routes */
     OJEONBUT_FEWER = 1,     /* fewer than k routes found, and no further one exists */

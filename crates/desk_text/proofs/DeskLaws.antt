@@ -24,7 +24,7 @@ use Rattle.query_rounds.proofs.SumsLaws.{getD-firsts}
 use Rattle.query.specs.Query.{Input, queryOf, width, reaches, roundsOf, tellsDue, areaDue, sumsDue, Cored}
 use Rattle.query.proofs.DecideLaws.{Passed, passed}
 use Rattle.query.proofs.Promises.{reached}
-use Rattle.desk_input.specs.Text.{mostNodesRead}
+use Rattle.desk_line.specs.Limits.{mostNodesRead}
 use Rattle.text_put.specs.Put.{Appended}
 use Rattle.desk_text.specs.Desk.{deskWords, refusedText, endLines, endText, replyText}
 use Rattle.desk_text.specs.Print.{Shows, Small}

@@ -2,5 +2,4 @@ pub mod TextLaws
 pub mod RoundsLaws
 pub mod ShapeLaws
 pub mod DeskLaws
-pub mod SaidLaws
-pub mod CutLaws
+pub mod FinishLaws

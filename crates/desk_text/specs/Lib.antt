@@ -3,3 +3,4 @@ pub mod Written
 pub mod Print
 pub mod Lines
 pub mod Shown
+pub mod Finished

@@ -5,7 +5,7 @@ use Prim.Native.Nat.{ℕ, zero, suc, _-_, _*_, _≤_, _<_}
 use lib.ListN.{length, getD}
 use Rattle.net.specs.Round.{Query, Ending, answered, unanswered, refused}
 use Rattle.net.specs.Outcome.{answers, summaries}
-use Rattle.desk_input.specs.Text.{mostNodesRead}
+use Rattle.desk_line.specs.Limits.{mostNodesRead}
 use Rattle.text_put.specs.Put.{Appended}
 use Rattle.summary.specs.declared.Sums.{Sums}
 use Rattle.summary.specs.Sums.{firsts}

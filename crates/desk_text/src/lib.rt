@@ -1,31 +1,36 @@
 // The desk program's work, from text to text.
-mod print;
+pub mod parts;
+pub mod print;
 
-use desk_input::Asked;
-use outcome::Told;
+use desk_feed::Taken;
+use desk_query::Query;
 use query_rounds::Got;
 ghost use Prim.Native.Nat.{_≤_};
-ghost use lib.ListN.{length, take};
-ghost use Rattle.desk_input.specs.Text.{mostNodesRead};
+ghost use lib.ListN.{length};
+ghost use Rattle.desk_line.specs.Limits.{mostNodesRead};
 ghost use Rattle.text_put.specs.Put.{Appended};
 ghost use Rattle.desk_text.specs.Desk.{deskWords, readQuery, replyText, deskText};
+ghost use Rattle.desk_text.specs.Finished.{Kept, RoadKept, Finished, RoadFinished};
 ghost use Rattle.desk_text.specs.Shown.{KnownEnd, Known, ShownEnd, Shown};
 ghost use Rattle.desk_text.specs.Written.{Written, mostText};
 
 // The room that any answer fits in.
 pub const MOST_TEXT: usize = 294912;
 
-// What the program reads. A well-formed text has at most 135,245 bytes (a first line of 77, and
-// 4,096 lines of 33), so what lies past it changes no answer (`desk-cut`).
-pub const MOST_READ: usize = 262144;
-
-const DESK_LABELS: usize = 512;
+pub const DESK_LABELS: usize = 512;
 
 // Slots for twelve routes among 1,024 nodes.
-const DESK_WORDS: usize = 12276;
+pub const DESK_WORDS: usize = 12276;
 
-// A table of 4,096 arcs.
-const DESK_TABLE: usize = 65536;
+// What is asked of a road table.
+pub struct Asked {
+    pub nodes: u32,
+    pub s: u32,
+    pub goal: u32,
+    pub k: u32,
+    pub a: u32,
+    pub b: u32,
+}
 
 // The lines of the rounds of a query that gave `g`.
 fn show_rounds(out: &mut [u8], g: Got, nodes: u32, k: u32, area: &[u32]) -> usize
@@ -77,23 +82,57 @@ fn reply(out: &mut [u8], table: &[u8], x: Asked) -> usize
     show(out, g, x.nodes, x.k, &area)
 }
 
+// What is due for a road file under a query, where the input ends: its refusal, or the reply over
+// the table made of its arcs.
+fn finish_road(x: Taken, q: Query, table: &mut [u8], out: &mut [u8]) -> usize
+    requires { ⌜ (mostText ≤ length (now out)) × (RoadKept x (now table)) ⌝ }
+    ensures { λ r. ⌜ RoadFinished x q (now (table .entry))
+        (now (out .entry)) (now (out .exit)) r ⌝ }
+{
+    let reader = x.reader;
+    let told = desk_feed::judge(reader, x.sized);
+    if told.outcome != outcome::FOUND {
+        return print::refused(out, told);
+    }
+    let n = reader.count as usize;
+    desk_feed::order(table, n);
+    let asked = Asked {
+        nodes: reader.nodes,
+        s: q.s,
+        goal: q.goal,
+        k: q.k,
+        a: q.a,
+        b: q.b,
+    };
+    let m = n * table::arc::RECORD;
+    reply(out, &table[0..m], asked)
+}
+
+// What is due where an input ends, of what was kept of it, into a buffer that any answer fits in.
+pub fn finish(x: Taken, first: &[u8], table: &mut [u8], out: &mut [u8]) -> usize
+    requires { ⌜ (mostText ≤ length (now out)) × (Kept x (now first) (now table)) ⌝ }
+    ensures { λ r. ⌜ Finished x (now (first .entry)) (now (table .entry))
+        (now (out .entry)) (now (out .exit)) r ⌝ }
+{
+    let n = x.first;
+    let q = desk_query::read(&first[0..n]);
+    let told = q.told;
+    if told.outcome != outcome::FOUND {
+        return print::refused(out, told);
+    }
+    finish_road(x, q, table, out)
+}
+
 // The answer to a text, into a buffer that any answer fits in.
 fn answer(text: &[u8], out: &mut [u8]) -> usize
     requires { ⌜ mostText ≤ length (now out) ⌝ }
     ensures { λ r. ⌜ Appended (now (out .entry)) 0 (deskText (now (text .entry)))
         (now (out .exit)) r ⌝ }
 {
-    let mut table = [0u8; DESK_TABLE];
-    let x = desk_input::read(text, &mut table);
-    if x.line != 0 {
-        let told = Told {
-            outcome: outcome::TEXT,
-            number: x.line,
-        };
-        return print::refused(out, told);
-    }
-    let m = x.arcs as usize * table::arc::RECORD;
-    reply(out, &table[0..m], x)
+    let mut first = [0u8; desk_feed::FIRST];
+    let mut table = [0u8; desk_feed::TABLE];
+    let x = desk_feed::feed(desk_feed::begin(), text, &mut first, &mut table);
+    finish(x, &first, &mut table, out)
 }
 
 // What the desk program prints for a text, at the front of `out`; how many bytes it is.
@@ -104,16 +143,4 @@ pub fn desk(text: &[u8], out: &mut [u8]) -> usize
         return 0;
     }
     answer(text, out)
-}
-
-// The same over the desk program's own buffers, whose sizes the types fix: `n` bytes were read.
-pub fn from_buffer(text: &[u8; MOST_READ], n: usize, out: &mut [u8; MOST_TEXT]) -> usize
-    ensures { λ r. ⌜ Appended (now (out .entry)) 0 (deskText (take n (now (text .entry))))
-        (now (out .exit)) r ⌝ }
-{
-    let whole = &text[..];
-    if n < MOST_READ {
-        return answer(&whole[..n], out);
-    }
-    answer(whole, out)
 }

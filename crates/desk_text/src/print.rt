@@ -21,7 +21,10 @@ fn has_number(outcome: u32) -> bool
     if outcome <= 6 {
         return true;
     }
-    outcome == 12
+    if outcome == 12 {
+        return true;
+    }
+    outcome == 14
 }
 
 // A space and the number, where one stands beside the outcome.
@@ -37,8 +40,8 @@ fn beside(out: &mut [u8], at: usize, outcome: u32, number: u32) -> usize
     at
 }
 
-// `refused`, the outcome, and for 2 to 6 and 12 the number beside it.
-pub(crate) fn refused(out: &mut [u8], told: Told) -> usize
+// `refused`, the outcome, and for 2 to 6, 12 and 14 the number beside it.
+pub fn refused(out: &mut [u8], told: Told) -> usize
     requires { ⌜ mostText ≤ length (now out) ⌝ }
     ensures { λ r. ⌜ Appended (now (out .entry)) 0 (refusedText told) (now (out .exit)) r ⌝ }
 {

@@ -89,6 +89,10 @@ secondTable = 20
 abbrev pub noPair : ℕ
 noPair = 21
 
+-- "old form" (02.13)
+abbrev pub oldForm : ℕ
+oldForm = 25
+
 -- "the writer meets a road number that isn't zero, with the lowest such record" (02.5)
 abbrev pub numbered : ℕ
 numbered = 27

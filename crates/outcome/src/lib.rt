@@ -51,6 +51,8 @@ pub const SECOND: u32 = 20;
 
 pub const NO_PAIR: u32 = 21;
 
+pub const OLD_FORM: u32 = 25;
+
 pub const NUMBERED: u32 = 27;
 
 // An outcome beside which no number is named.

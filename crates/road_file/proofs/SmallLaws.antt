@@ -97,3 +97,7 @@ good-feed x (b ∷ text) g = good-feed (feedByte x b) text (good-byte x b g)
 
 pub said-small : (text : List ℕ) → AllSmall (feed unfed text .said .arcs)
 said-small text = good-feed unfed text good-nothing .arcs
+
+-- never more arcs than the `p` line says
+pub said-few : (text : List ℕ) → length (feed unfed text .said .arcs) ≤ feed unfed text .said .wanted
+said-few text = good-feed unfed text good-nothing .count

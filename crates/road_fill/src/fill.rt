@@ -13,7 +13,7 @@ const RECORD: usize = 16;
 const PLACE: usize = 12;
 
 // Record i, and its place.
-fn place(table: &mut [u8], i: u32, from: u32, to: u32, len: u32)
+pub fn place(table: &mut [u8], i: u32, from: u32, to: u32, len: u32)
     requires { ⌜ i * 16 + 16 ≤ length (now table) ⌝ }
     ensures { λ _. ⌜ now (table .exit)
         ≡ put 4 (putArc (now (table .entry)) i (record { from = from; to = to; len = len }))

@@ -56,7 +56,7 @@ line-arc a h =
 
 -- ---- no newline
 
-has-append : (b : ℕ) (l m : List ℕ) → has b l ≡ false → has b m ≡ false → has b (l ++ m) ≡ false
+pub has-append : (b : ℕ) (l m : List ℕ) → has b l ≡ false → has b m ≡ false → has b (l ++ m) ≡ false
 unfolding has
 has-append b [] m h k = k
 has-append b (x ∷ l) m h k =
@@ -65,7 +65,7 @@ has-append b (x ∷ l) m h k =
     (λ e. rw e (has-append b l m (rw e at h) k))
     (cases (eqb b x))
 
-decimal-newline : (v : ℕ) → has 10 (decimal v) ≡ false
+pub decimal-newline : (v : ℕ) → has 10 (decimal v) ≡ false
 decimal-newline v =
     ⊎-elim (λ e. absurd (omega (arith, decimal-bytes v 10 (has→mem 10 (decimal v) (rw e tt)) .0))) (λ e. e) (cases (has 10 (decimal v)))
 

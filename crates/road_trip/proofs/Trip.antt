@@ -168,7 +168,7 @@ record-bytes x =
     bytes-append (bytesOf 4 (x .from)) (bytesOf 4 (x .to) ++ end) (bytes-bytesOf 4 (x .from))
     (bytes-append (bytesOf 4 (x .to)) end (bytes-bytesOf 4 (x .to)) (bytes-append (bytesOf 4 (x .len)) (bytesOf 4 0) (bytes-bytesOf 4 (x .len)) (bytes-bytesOf 4 0)))
 
-table-bytes : (xs : List Arc) (k : ℕ) → getD (tableOf xs) k 0 < 256
+pub table-bytes : (xs : List Arc) (k : ℕ) → getD (tableOf xs) k 0 < 256
 unfolding tableOf
 table-bytes [] k = omega arith
 table-bytes (x ∷ xs) k = bytes-append (recordOf x) (tableOf xs) (record-bytes x) (table-bytes xs) k

@@ -10,6 +10,7 @@ use Rattle.lists.proofs.IndexLaws.{length-tab, tab-more}
 use Rattle.net.specs.Net.{Arc}
 use Rattle.numerals.specs.Decimal.{decimal}
 use Rattle.numerals.proofs.DecimalLaws.{decimal-length}
+use Rattle.table.proofs.NetLaws.{arcs-length}
 use Rattle.road_line.specs.Line.{sizesStart, arcStart}
 use Rattle.text_put.specs.Put.{Appended, space, newline}
 use Rattle.text_put.proofs.AppendLaws.{appended-more}
@@ -105,3 +106,6 @@ module _ (t : List ℕ) where
 
   pub text-length : (nodes : ℕ) → length (textOf nodes t) ≡ length (ended (sizesText nodes (records t))) + length (linesText (arcsOf t))
   text-length nodes = ap length (sym (text-parts nodes)) ∙ length-append (ended (sizesText nodes (records t))) (linesText (arcsOf t))
+
+  pub text-most : (nodes : ℕ) → length (textOf nodes t) ≤ 47 + records t * 65
+  text-most nodes = omega (arith, text-length nodes, sizes-most nodes (records t), lines-length-most (arcsOf t), arcs-length t)

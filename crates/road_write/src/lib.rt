@@ -43,12 +43,12 @@ fn needed(table: &[u8], nodes: u32) -> usize
 }
 
 // The first line.
-fn sizes(out: &mut [u8], nodes: u32, arcs: usize) -> usize
-    requires { ⌜ length (ended (sizesText nodes arcs)) ≤ length (now out) ⌝ }
-    ensures { λ r. ⌜ Appended (now (out .entry)) 0 (ended (sizesText nodes arcs))
+fn sizes(out: &mut [u8], at: usize, nodes: u32, arcs: usize) -> usize
+    requires { ⌜ at + length (ended (sizesText nodes arcs)) ≤ length (now out) ⌝ }
+    ensures { λ r. ⌜ Appended (now (out .entry)) at (ended (sizesText nodes arcs))
         (now (out .exit)) r ⌝ }
 {
-    let first = text_put::bytes(out, 0, b"p sp ");
+    let first = text_put::bytes(out, at, b"p sp ");
     let second = numerals::put(out, first, nodes as u64);
     let last = text_put::spaced(out, second, arcs as u64);
     out[last] = 10;
@@ -98,13 +98,13 @@ fn lines(out: &mut [u8], at: usize, table: &[u8]) -> usize
     next
 }
 
-// The text, where there is room for it; how many bytes it is.
-fn put(table: &[u8], nodes: u32, text: &mut [u8]) -> usize
-    requires { ⌜ length (textOf nodes (now table)) ≤ length (now text) ⌝ }
-    ensures { λ r. ⌜ Appended (now (text .entry)) 0 (textOf nodes (now (table .entry)))
+// The text at place `at`, where there is room for it; the place after it.
+pub fn put(table: &[u8], nodes: u32, text: &mut [u8], at: usize) -> usize
+    requires { ⌜ at + length (textOf nodes (now table)) ≤ length (now text) ⌝ }
+    ensures { λ r. ⌜ Appended (now (text .entry)) at (textOf nodes (now (table .entry)))
         (now (text .exit)) r ⌝ }
 {
-    let first = sizes(text, nodes, table.len() / table::arc::RECORD);
+    let first = sizes(text, at, nodes, table.len() / table::arc::RECORD);
     lines(text, first, table)
 }
 
@@ -142,5 +142,5 @@ pub fn write(table: &[u8], nodes: u32, text: &mut [u8]) -> Made
     if text.len() < needed(table, nodes) {
         return Made::Refused(outcome::BUFFERS, 0);
     }
-    Made::Done(put(table, nodes, text), 0)
+    Made::Done(put(table, nodes, text, 0), 0)
 }

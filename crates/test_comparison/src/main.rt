@@ -158,5 +158,5 @@ fn damaged(text: &[u8]) {
 fn main() {
     let tally = all();
     show(&tally);
-    damaged(b"4 5 0 3 4 1 2\n0 1 2\n0 2 3\n1 2 1\n1 3 2\n2 3 2\n");
+    damaged(b"0 3 4 1 2\np sp 4 5\na 2 3 1\na 1 2 2\na 2 4 2\nc\na 1 3 3\na 3 4 2\n");
 }

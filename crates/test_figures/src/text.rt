@@ -1,4 +1,5 @@
-// Texts put together, and the answers to them.
+// Texts of the old form put together, and the answers to them: through the converter, and the desk
+// program for what it gives.
 
 pub(crate) const MOST: usize = 64;
 
@@ -13,12 +14,28 @@ pub(crate) fn append(t: &mut [u8], at: usize, s: &[u8]) -> usize {
     text_put::bytes(t, at, s)
 }
 
-// What the desk program prints for the first n bytes.
+// What the desk program prints for a text of the new form.
+fn print(t: &[u8]) {
+    let mut out = [0u8; desk_text::MOST_TEXT];
+    let m = desk_text::desk(t, &mut out);
+    io::write_all(1, test_cells::between(&out, 0, m));
+}
+
+// What the converter gives: a line of a refusal as it is, and a text through the desk program.
+fn given(t: &[u8]) {
+    if test_cells::byte(t, 0) == b'r' {
+        io::write_all(1, t);
+    } else {
+        print(t);
+    }
+}
+
+// What is printed for the first n bytes.
 fn answer(t: &[u8], n: usize) {
     if n <= t.len() {
-        let mut out = [0u8; desk_text::MOST_TEXT];
-        let m = desk_text::desk(&t[0..n], &mut out);
-        io::write_all(1, test_cells::between(&out, 0, m));
+        let mut new = [0u8; desk_old::MOST_TURNED];
+        let m = desk_old::turn(&t[0..n], &mut new);
+        given(test_cells::between(&new, 0, m));
     }
 }
 

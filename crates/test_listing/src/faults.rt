@@ -4,11 +4,8 @@ use crate::sheet;
 
 pub(crate) const TOLD: usize = 65536;
 
-// Too large, in line 0: one more for each line.
-const TOO_LARGE: usize = 12 * TOLD + 1;
-
-// More partial routes than can be listed, in line 1.
-pub(crate) const TOO_MANY: usize = TOO_LARGE + 1;
+// More arcs or partial routes than can be listed, told as a malformed line 1.
+pub(crate) const TOO_MANY: usize = 12 * TOLD + 2;
 
 const NO_TABLE: usize = 13 * TOLD;
 
@@ -81,7 +78,7 @@ fn call_fault(sheet: &sheet::Sheet) -> usize {
     )
 }
 
-// The refusal due as it is told, or 0. A malformed text and one with too many arcs are too large.
+// The refusal due as it is told, or 0: of the text first.
 pub(crate) fn refusal(sheet: &sheet::Sheet) -> usize {
     let arcs = sheet::get(sheet, sheet::ARC_COUNT);
     let nodes = sheet::get(sheet, sheet::NODES);
@@ -91,6 +88,6 @@ pub(crate) fn refusal(sheet: &sheet::Sheet) -> usize {
     let size = (nodes < 1) | (nodes > MOST_NODES) | (sheet::get(sheet, sheet::ODD_BYTES) > 0);
     let told = test_cells::pick(size, NO_TABLE, test_cells::place(fault, TOLD, at));
     let bad = sheet::get(sheet, sheet::BAD_LINE);
-    let line = test_cells::add(TOO_LARGE, test_cells::pick(bad == 0, 1, bad));
-    test_cells::pick((bad > 0) | (arcs > sheet::MOST_ARCS), line, told)
+    let listed = test_cells::pick(arcs > sheet::MOST_ARCS, TOO_MANY, told);
+    test_cells::pick(bad > 0, bad, listed)
 }

@@ -10,7 +10,7 @@ pub(crate) const MOST_ROUNDS: usize = 12;
 // How many rounds have an answer.
 pub(crate) const FOUND: usize = 0;
 
-// The number of the text's first bad line.
+// What is told of the text's first bad line.
 pub(crate) const BAD_LINE: usize = 1;
 
 // The head: what was asked. The threshold is A / B; odd bytes are those past the table's last whole
@@ -42,7 +42,7 @@ pub(crate) const CLOSURES: usize = 13;
 pub(crate) const CLOSURE_BYTES: usize = 14;
 
 // The arcs: start node, end node, length, road number, and the closure byte, 0 where none is
-// lent. Their first cell is a multiple of ARC, which text.rt leans on.
+// lent.
 pub(crate) const ARCS: usize = CLOSURE_BYTES + 1;
 
 pub(crate) const ARC: usize = 5;
@@ -86,7 +86,17 @@ pub(crate) const ROUNDS: usize = OVERLAPS + (FULL + 1) * MOST_ROUNDS;
 
 pub(crate) const COUNTS: usize = 2048;
 
-pub(crate) const SHEET: usize = ROUNDS + MOST_ROUNDS + 2;
+// While a text is read: how many lines have ended, where the next begins, whether the `p` line has
+// come, and how many arcs.
+pub(crate) const LINE: usize = ROUNDS + MOST_ROUNDS + 2;
+
+pub(crate) const AT: usize = LINE + 1;
+
+pub(crate) const BEGUN: usize = LINE + 2;
+
+pub(crate) const TAKEN: usize = LINE + 3;
+
+pub(crate) const SHEET: usize = LINE + 4;
 
 pub(crate) type Sheet = [usize; SHEET];
 

@@ -21,7 +21,7 @@ returns c =
     let x = y .before .before .before .before in
     let s = start x in
     rw (← text-parts (s .args .table .now) (s .args .nodes))
-    (appended-more (s .args .text .now) 0 _ _ _ _ _ _ (x .sizes .ensures) (y .lines .ensures) (omega arith))
+    (appended-more (s .args .text .now) (s .args .at) _ _ _ _ _ _ (x .sizes .ensures) (y .lines .ensures) (omega arith))
 
 pub put-spec : {M : Type 1} → statement M
 put-spec =

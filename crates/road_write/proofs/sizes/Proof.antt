@@ -47,10 +47,11 @@ returns c =
     let b = word w in
     let s = start b in
     let l = s .args .out .now in
-    let h : 0 ≤ length l = omega arith in
-    let i = appended-more l 0 sizesStart _ _ (decimal (s .args .nodes)) _ _ (b .bytes .ensures) (appended-by _ _ _ _ _ (w .put .ensures)) h in
-    let ii = appended-more l 0 _ _ _ _ _ _ i (x .spaced .ensures) h in
-    rw (← sizes-parts (s .args .nodes) (s .args .arcs)) (appended-more l 0 _ _ _ _ _ _ ii (appended-one _ _ newline (slice-write-out c)) h)
+    let at = s .args .at in
+    let h : at ≤ length l = omega arith in
+    let i = appended-more l at sizesStart _ _ (decimal (s .args .nodes)) _ _ (b .bytes .ensures) (appended-by _ _ _ _ _ (w .put .ensures)) h in
+    let ii = appended-more l at _ _ _ _ _ _ i (x .spaced .ensures) h in
+    rw (← sizes-parts (s .args .nodes) (s .args .arcs)) (appended-more l at _ _ _ _ _ _ ii (appended-one _ _ newline (slice-write-out c)) h)
 
 pub sizes-spec : {M : Type 1} → statement M
 sizes-spec =

@@ -1,4 +1,0 @@
-pub mod LineLaws
-pub mod ArcsLaws
-pub mod SaidLaws
-pub mod CutLaws

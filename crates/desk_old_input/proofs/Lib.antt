@@ -1,0 +1,3 @@
+pub mod ArcsLaws
+pub mod SaidLaws
+pub mod CutLaws
