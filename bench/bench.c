@@ -596,9 +596,9 @@ static void row_of_large(const char *name, const struct query *q, bool with_libr
 }
 
 /* A fan with a goal that no arc leads to, so that every arc is looked at. */
-static void row_of_fan(const char *name, uint32_t ends, uint32_t longest, bool with_library)
+static void row_of_fan(const char *name, uint32_t arcs, uint32_t ends, uint32_t longest, bool with_library)
 {
-    network_fan(&net, OJEONBUT_ARCS, ends, longest, SEED);
+    network_fan(&net, arcs, ends, longest, SEED);
     check(&net);
     struct query q = {.net = &net, .leg = {0, net.nodes - 1}, .k = 1, .a = 1, .b = 2, .room = OJEONBUT_LABELS};
     row_of_large(name, &q, with_library);
@@ -613,10 +613,12 @@ static void table_of_large(bool with_library)
     uint64_t seed = net.nodes;
     struct query q = {.net = &net, .leg = network_leg(&net, net.width - 1, net.height - 1, &seed), .k = 2, .a = 1, .b = 2, .room = OJEONBUT_LABELS};
     row_of_large("64 x 64, from a corner to the opposite one", &q, with_library);
-    row_of_fan("a node's arcs, all to one, of equal length", 1, 1, with_library);
-    row_of_fan("a node's arcs, all to one, lengths drawn", 1, LONGEST, with_library);
-    row_of_fan("a node's arcs, to as many as may be, of equal length", OJEONBUT_NODES - 2, 1, with_library);
-    row_of_fan("a node's arcs, to as many as may be, lengths drawn", OJEONBUT_NODES - 2, LONGEST, with_library);
+    for (uint32_t arcs = OJEONBUT_ARCS / 16; arcs <= OJEONBUT_ARCS; arcs *= 16) {
+        row_of_fan("a node's arcs, all to one, of equal length", arcs, 1, 1, with_library);
+        row_of_fan("a node's arcs, all to one, lengths drawn", arcs, 1, LONGEST, with_library);
+        row_of_fan("a node's arcs, to a fourth as many, of equal length", arcs, arcs / 4 - 2, 1, with_library);
+        row_of_fan("a node's arcs, to a fourth as many, lengths drawn", arcs, arcs / 4 - 2, LONGEST, with_library);
+    }
 }
 
 static uint8_t second[OJEONBUT_ARCS * OJEONBUT_RECORD];
@@ -703,6 +705,18 @@ static void make_legs(uint32_t side, struct leg *corners, struct leg *drawn)
     }
 }
 
+/* The networks of the via routes and the pairs; the last is the greatest table. */
+static const uint32_t sides[] = {32, 64, 256};
+enum { SIDES = sizeof sides / sizeof *sides };
+
+static void make_side(uint32_t side)
+{
+    if (side == sides[SIDES - 1])
+        make_region();
+    else
+        make(&net, side, side, LONGEST);
+}
+
 static void table_of_via(bool quick)
 {
     printf("\nVia routes, 1/2. Legs between opposite corners, and between drawn nodes. Ratio: the library's time over that of the plain C (bench/svp.c). Found: of how many legs there\n"
@@ -710,16 +724,11 @@ static void table_of_via(bool quick)
            "how many percent of the exact one the via one is longer, the mean.\n"
            " nodes  k  legs     legs  agreed   library ms     plain ms    ratio   found  exact 11   both  longer %%\n",
            OJEONBUT_LABELS);
-    static const uint32_t sides[] = {32, 64, 256};
-    for (int n = 0; n < (quick ? 1 : 3); n++) {
-        uint32_t side = sides[n];
-        if (side == 256)
-            make_region();
-        else
-            make(&net, side, side, LONGEST);
-        svp_second(net.table, net.bytes, net.nodes, second);
+    for (int n = 0; n < (quick ? 1 : SIDES); n++) {
         struct leg corners[4], drawn[LEGS];
-        make_legs(side, corners, drawn);
+        make_side(sides[n]);
+        make_legs(sides[n], corners, drawn);
+        svp_second(net.table, net.bytes, net.nodes, second);
         for (uint32_t k = 2; k <= (quick ? 2 : 4); k += 2) {
             row_of_via("corners", corners, quick ? 1 : 4, k);
             row_of_via("drawn", drawn, quick ? QUICK_LEGS : LEGS, k);
@@ -815,10 +824,10 @@ static void table_of_pairs(bool quick)
     printf("\nPair. Two routes with nothing in common, the legs of the via routes. Ratio: the library's time over that of the plain C (bench/suurballe.c), whose second search ends at\n"
            "the goal. Agreed: by the total. Found: of how many legs there is a pair.\n"
            " nodes  legs     legs  agreed   library ms     plain ms    ratio   found\n");
-    for (uint32_t side = 32; side <= (quick ? 32 : 64); side *= 2) {
+    for (int n = 0; n < (quick ? 1 : SIDES); n++) {
         struct leg corners[4], drawn[LEGS];
-        make(&net, side, side, LONGEST);
-        make_legs(side, corners, drawn);
+        make_side(sides[n]);
+        make_legs(sides[n], corners, drawn);
         row_of_pairs("corners", corners, quick ? 1 : 4);
         row_of_pairs("drawn", drawn, quick ? QUICK_LEGS : LEGS);
     }
