@@ -41,7 +41,7 @@ module _ (o n : ℕ) (l : List ℕ) (u x : ℕ) (inside : leb (o + 4) roomBytes 
   mark-put-node : (w : ℕ) → (w ≡ u → ⊥) → markIn o n (putWord o l u x) w ≡ markIn o n l w
   mark-put-node w ne = ap (λ y. cond (ltb w n) y none) (word-put-node o l u x inside w ne)
 
-kept-put : (l : List ℕ) (u x : ℕ) → Within 36 8 l (putWord 36 l u x)
+pub kept-put : (l : List ℕ) (u x : ℕ) → Within 36 8 l (putWord 36 l u x)
 kept-put l u x = within-wider 36 8 (within-word 36 l u x refl) refl refl
 
 added-put : (l : List ℕ) (u x : ℕ) → Within 36 8 l (putWord 40 l u x)

@@ -50,7 +50,7 @@ pub fn first(table: &[u8], closed: &[u8], nodes: u32, s: u32, goal: u32, room: &
     requires { ⌜ (tableFault nodes (now table) ≡ good) × (s < nodes) × (goal < nodes)
         × (Roomy nodes (now room)) × (Reached (netOf nodes (now table) (now closed)) s (now room))
         × (distOf (netOf nodes (now table) (now closed)) (now room) goal < far) ⌝ }
-    ensures { λ y. ⌜ (length (now (room .exit)) ≡ length (now (room .entry)))
+    ensures { λ y. ⌜ (Within 36 8 (now (room .entry)) (now (room .exit)))
         × (Marked (netOf nodes (now (table .entry)) (now (closed .entry))) s goal
         (now (room .exit))) ⌝ }
 {

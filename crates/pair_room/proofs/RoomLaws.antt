@@ -1,4 +1,4 @@
--- The fields lie apart: the second search leaves the first one's and the marks, and marks leave both searches'.
+-- The fields lie apart: the second search leaves the first one's and the marks, and marks leave both searches'. All lie before the notes of where runs start.
 use mathlib.Core.Path.{_≡_, refl, ap, subst, sym, fun-ext, _∙_}
 use mathlib.Core.Logic.{inl, inr}
 use mathlib.Core.Bool.{cond}
@@ -9,13 +9,12 @@ use lib.Dec.{ltb}
 use borrow.Author.Tests.{lt-ltb, le-ltb}
 use Rattle.net.specs.Net.{Net}
 use Rattle.distances.specs.Search.{Found}
-use Rattle.working_room.specs.Field.{wordAt, longAt, Within}
+use Rattle.working_room.specs.Field.{wordAt, Within}
 use Rattle.working_room.proofs.RoomLaws.{within-longAt, within-wordAt}
-use Rattle.reach.specs.declared.Stand.{Stand}
-use Rattle.reach.specs.Stand.{Stands, distIn, lastIn, Elsewhere}
+use Rattle.reach.specs.Stand.{Stands, BeforeNotes, distIn, lastIn, Elsewhere}
 use Rattle.pair.specs.Walked.{Shortest, Marks, On}
 use Rattle.pair_room.specs.Room.{far, further, first, again, none, markIn, keptIn, addedIn}
-use Rattle.pair_room.specs.Stages.{distOf, lastOf, Reached, Marked}
+use Rattle.pair_room.specs.Stages.{distOf, lastOf, Marked}
 
 pub first-stands : Stands first
 first-stands =
@@ -24,6 +23,12 @@ first-stands =
 pub again-stands : Stands again
 again-stands =
     record { dist-after = omega arith; dist-in = omega arith; last-after = omega arith; last-in = omega arith; apart = inl (omega arith); some-way = omega arith; far-most = omega arith }
+
+pub first-before : BeforeNotes first
+first-before = record { dist = omega arith; last = omega arith }
+
+pub again-before : BeforeNotes again
+again-before = record { dist = omega arith; last = omega arith }
 
 -- ---- a node's mark, and that of a number past the nodes
 

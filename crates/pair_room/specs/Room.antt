@@ -1,5 +1,5 @@
 -- What a node's record of the working room holds for the pair: the queue in bytes 0 to 11; the distance from s by the first search in bytes 12 to 19 and the last arc
--- of its route in 20 to 23; the same by the second search in bytes 24 to 31 and 32 to 35; two marks in bytes 36 to 39 and 40 to 43.
+-- of its route in 20 to 23; the same by the second search in bytes 24 to 31 and 32 to 35; two marks in bytes 36 to 39 and 40 to 43; where its run starts in 56 to 59.
 use mathlib.Core.Bool.{cond}
 use mathlib.Core.List.{List}
 use Prim.Native.Nat.{ℕ}

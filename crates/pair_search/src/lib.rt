@@ -7,6 +7,7 @@ ghost use Rattle.table.specs.Table.{records, toAt, lenAt, arcsOf, isOpen, netOf
 ghost use Rattle.table.specs.Fault.{tableFault, good};
 ghost use Rattle.working_room.specs.Field.{longAt};
 ghost use Rattle.node_queue.specs.Queue.{keyAt, Roomy, Queue};
+ghost use Rattle.run_notes.specs.Noted.{LeavingNoted};
 ghost use Rattle.reach.specs.Stand.{Elsewhere};
 ghost use Rattle.pair.specs.Walked.{comesBack, Waits, Backward};
 ghost use Rattle.pair_room.specs.Room.{far, further, again, keptIn};
@@ -115,7 +116,7 @@ fn own(
     requires { ⌜ (tableFault nodes (now table) ≡ good) × (u < nodes)
         × (At (netOf nodes (now table) (now closed)) s goal (now room) (now room) root u d
         (Waits (netOf nodes (now table) (now closed)) (keptIn nodes (now room)) (lastOf (now room))
-        u 0)) ⌝ }
+        u 0)) × (LeavingNoted nodes (now table) (now room)) ⌝ }
     ensures { λ r. ⌜ At (netOf nodes (now (table .entry)) (now (closed .entry))) s goal
         (now (room .entry)) (now (room .exit)) r u d
         (Backward (arcsOf (now (table .entry))) (keptIn nodes (now (room .exit)))
@@ -124,7 +125,7 @@ fn own(
     let v = u as u32;
     let end = table.len() / table::arc::RECORD;
     let mut first = root;
-    let mut a = run_starts::leaving(table, nodes, v);
+    let mut a = run_notes::start_of(table, nodes, room, v);
     while a < end {
         if table::arc::from_of(table, a) != v {
             return first;
@@ -148,7 +149,7 @@ fn leave(
 ) -> usize
     requires { ⌜ (tableFault nodes (now table) ≡ good)
         × (Between (netOf nodes (now table) (now closed)) s goal (now room) u)
-        × (keyAt (now room) u < further) ⌝ }
+        × (keyAt (now room) u < further) × (LeavingNoted nodes (now table) (now room)) ⌝ }
     ensures { λ r. ⌜ Left (netOf nodes (now (table .entry)) (now (closed .entry))) s goal
         (now (room .entry)) (now (room .exit)) r u ⌝ }
 {
@@ -158,10 +159,12 @@ fn leave(
     back(table, closed, nodes, s, goal, room, first, u, d)
 }
 
-// The distances of all nodes from s through the residual net.
+// The distances of all nodes from s through the residual net. Where the runs start is noted in the
+// room.
 pub fn search(table: &[u8], closed: &[u8], nodes: u32, s: u32, goal: u32, room: &mut [u8])
     requires { ⌜ (tableFault nodes (now table) ≡ good) × (s < nodes) × (Roomy nodes (now room))
-        × (Marked (netOf nodes (now table) (now closed)) s goal (now room)) ⌝ }
+        × (Marked (netOf nodes (now table) (now closed)) s goal (now room))
+        × (LeavingNoted nodes (now table) (now room)) ⌝ }
     ensures { λ y. ⌜ (Elsewhere again (now (room .entry)) (now (room .exit)))
         × (Searched (netOf nodes (now (table .entry)) (now (closed .entry))) s goal
         (now (room .exit))) ⌝ }

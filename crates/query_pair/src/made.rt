@@ -21,6 +21,7 @@ fn prepare(table: &[u8], closed: &[u8], nodes: u32, s: u32, goal: u32, room: &mu
         × (Prepared (netOf nodes (now (table .entry)) (now (closed .entry))) s goal
         (now (room .exit)) r) ⌝ }
 {
+    run_notes::leaving(table, nodes, room);
     reach::forward::search(table, closed, nodes, s, pair_room::first(), room);
     if pair_room::FAR <= working_room::long(room, pair_room::DIST, goal as usize) {
         return false;

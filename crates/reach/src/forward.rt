@@ -48,27 +48,9 @@ fn leave(
     root
 }
 
-// The distances of all nodes from s, over the arcs that are not closed.
+// The distances of all nodes from s, over the arcs that are not closed. Where the runs start is
+// noted in the room.
 pub fn search(table: &[u8], closed: &[u8], nodes: u32, s: u32, x: Stand, room: &mut [u8])
-    requires { ⌜ (tableFault nodes (now table) ≡ good) × (s < nodes) × (Stands x)
-        × (Roomy nodes (now room)) ⌝ }
-    ensures { λ y. ⌜ (Elsewhere x (now (room .entry)) (now (room .exit)))
-        × (Found (netOf nodes (now (table .entry)) (now (closed .entry))) s (x .far)
-        (distIn x nodes (now (room .exit))) (lastIn x (now (room .exit)))) ⌝ }
-{
-    let n = nodes as usize;
-    let far = x.far;
-    let mut root = step::start(room, n, x, s as usize);
-    let mut key = working_room::long(room, node_queue::winner::KEY, root);
-    while key < far {
-        let first = run_starts::leaving(table, nodes, root as u32);
-        root = leave(table, closed, nodes, s, x, room, root, first);
-        key = working_room::long(room, node_queue::winner::KEY, root);
-    }
-}
-
-// The same where the starts of the runs are noted in the room.
-pub fn noted(table: &[u8], closed: &[u8], nodes: u32, s: u32, x: Stand, room: &mut [u8])
     requires { ⌜ (tableFault nodes (now table) ≡ good) × (s < nodes) × (Stands x)
         × (Roomy nodes (now room)) × (BeforeNotes x)
         × (LeavingNoted nodes (now table) (now room)) ⌝ }

@@ -32,7 +32,7 @@ fn leaving_end(table: &[u8], nodes: u32, v: u32, a: usize) -> usize
 }
 
 // The starts of the arcs that leave each node.
-fn leaving(table: &[u8], nodes: u32, room: &mut [u8])
+pub fn leaving(table: &[u8], nodes: u32, room: &mut [u8])
     requires { ⌜ (tableFault nodes (now table) ≡ good) × (Roomy nodes (now room)) ⌝ }
     ensures { λ y. ⌜ (Within 56 4 (now (room .entry)) (now (room .exit)))
         × (LeavingNoted nodes (now (table .entry)) (now (room .exit))) ⌝ }

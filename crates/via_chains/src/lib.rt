@@ -47,7 +47,7 @@ pub fn prepare(table: &[u8], second: &[u8], closed: &[u8], ask: Ask, room: &mut 
         room,
     );
     first_routes::pick::all(table, closed, ask.nodes, ask.goal, room);
-    reach::forward::noted(table, closed, ask.nodes, ask.s, first_routes::forth(), room);
+    reach::forward::search(table, closed, ask.nodes, ask.s, first_routes::forth(), room);
     first_routes::walk::all(table, closed, ask.nodes, ask.s, room);
 }
 

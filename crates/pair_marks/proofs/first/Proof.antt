@@ -1,20 +1,21 @@
 -- Invariant: the way back along the first route has come to v over k arcs, and these are marked (`Traced`). An arc more is `trace-step`; each comes to another node, so k
--- stays below the number of nodes. At s the whole route is marked.
+-- stays below the number of nodes. Nothing but marks changes. At s the whole route is marked.
 use mathlib.Core.Path.{_≡_, sym, subst}
 use Prim.Native.Nat.{pred, _+_, _*_, _-_, _≤_, _<_}
 use native.Mathlib.Omega.{arith}
 use lib.ListN.{length}
 use borrow.Author.Needs.{needs}
 use Rattle.table.specs.Table.{fromAt, netOf}
-use Rattle.working_room.specs.Field.{roomBytes}
+use Rattle.working_room.specs.Field.{roomBytes, Within}
+use Rattle.working_room.proofs.RoomLaws.{within-same, within-trans}
 use Rattle.node_queue.proofs.WinnerLaws.{room-at}
 use Rattle.pair_marks.specs.Way.{Traced}
-use Rattle.pair_marks.proofs.MarkLaws.{trace-start, trace-arc, trace-below, trace-room, trace-step, trace-end}
+use Rattle.pair_marks.proofs.MarkLaws.{kept-put, trace-start, trace-arc, trace-below, trace-room, trace-step, trace-end}
 use Rattle.pair_marks.proofs.first.Statement.{statement}
 use Rattle.pair_marks.proofs.first.Tie as tie
 
 abbrev Inv-loop : tie.InvT-loop
-Inv-loop table closed nodes s goal room₀ n v₀ k₀ room v k = (length room ≡ length room₀) × Traced (netOf nodes table closed) s goal room v k
+Inv-loop table closed nodes s goal room₀ n v₀ k₀ room v k = (length room ≡ length room₀) × Traced (netOf nodes table closed) s goal room v k × Within 36 8 room₀ room
 
 abbrev μ-loop : tie.MeasureT-loop
 μ-loop table closed nodes s goal room₀ n v₀ k₀ room v k = nodes - k
@@ -29,7 +30,7 @@ loop-holds : tie.Need-loop-holds Inv-loop μ-loop
 loop-holds c =
     let s = start c in
     let b = blanked c .blank .ensures in
-    (omega arith, trace-start _ _ (s .args .closed .now) (s .pre .0) _ _ _ _ (s .pre .3) (s .pre .2) (s .pre .4) (s .pre .5) (b .0) (b .1) (b .2))
+    (omega arith, trace-start _ _ (s .args .closed .now) (s .pre .0) _ _ _ _ (s .pre .3) (s .pre .2) (s .pre .4) (s .pre .5) (b .0) (b .1) (b .2), within-same 36 8 _)
 
 word-requires : tie.Need-word-requires Inv-loop μ-loop
 word-requires c κs =
@@ -71,13 +72,14 @@ loop-again c =
       omega arith,
       trace-step _ _ (s .args .closed .now) (s .pre .0) _ _ _ _ _ (a .loop .inv .1) (i .loop-test .taken) _ _ _
           (m .before .before .word .ensures) (m .mark .ensures .0) (m .mark .ensures .1),
+      within-trans (a .loop .inv .2) (subst (Within 36 8 (a .loop .room)) (sym (m .mark .ensures .1)) (kept-put (a .loop .room) (m .mark .result) (m .before .before .word .result))),
     )
 
 returns : tie.Need-returns Inv-loop μ-loop
 returns c =
     let a = c .before in
     let s = start (a .before) in (
-      omega (arith, a .loop .inv .0, blanked (a .before) .blank .ensures .0 .long),
+      within-trans (blanked (a .before) .blank .ensures .0) (a .loop .inv .2),
       trace-end _ _ (s .args .closed .now) (s .pre .0) _ _ _ _ _ (a .loop .inv .1) (c .loop-test .left),
     )
 

@@ -4,10 +4,12 @@ use borrow.Author.Needs.{needs}
 use Rattle.net.specs.Net.{Net}
 use Rattle.table.specs.Table.{arcsOf, netOf}
 use Rattle.node_queue.specs.Queue.{Queue}
-use Rattle.reach.proofs.StandLaws.{record-in}
+use Rattle.reach.proofs.StandLaws.{else-queue, record-in}
+use Rattle.reach.proofs.NotesLaws.{leaving-else}
 use Rattle.pair.specs.Walked.{Waits, Backward}
-use Rattle.pair_room.specs.Room.{keptIn}
+use Rattle.pair_room.specs.Room.{again, keptIn}
 use Rattle.pair_room.specs.Stages.{lastOf}
+use Rattle.pair_room.proofs.RoomLaws.{again-before}
 use Rattle.pair_search.specs.Turn.{At}
 use Rattle.pair_search.proofs.TurnLaws.{arcs-few, between-queue, at-begin, at-anew, at-since}
 use Rattle.pair_search.proofs.leave.Statement.{statement}
@@ -47,6 +49,7 @@ own-requires c κs =
       s .pre .0,
       queue s .root .used,
       at-anew (net s) (s .args .s) (s .args .goal) (s .args .room .now) m (k .set-key .result) (s .args .u) (k .before .before .long .result) (Waits (net s) (keptIn (s .args .nodes) m) (lastOf m) (s .args .u) 0) (begins k),
+      leaving-else again again-before (s .args .nodes) (s .args .table .now) (else-queue again (k .set-key .ensures .within)) (s .pre .3),
     )
 
 abbrev keyed : tie.After-own → tie.After-set-key

@@ -25,18 +25,25 @@ abbrev μ-loop : tie.MeasureT-loop
 μ-loop table closed nodes s goal room₀ root u d v end first₀ a₀ room first a = end - a
 
 abbrev start : tie.At-loop Inv-loop μ-loop → tie.Start Inv-loop μ-loop
-start a = a .before .before .before .before .before
+start a = a .before .before .before .before .before .before
 
 abbrev net : tie.Start Inv-loop μ-loop → Net
 net s = netOf (s .args .nodes) (s .args .table .now) (s .args .closed .now)
 
+start-of-requires : tie.Need-start-of-requires Inv-loop μ-loop
+start-of-requires c κs =
+    let s = c .before .before .before .before in
+    let l = s .args .room .now in
+    let q = at-queue (net s) (s .args .s) (s .args .goal) l l (s .args .root) (s .args .u) (s .args .d) (Waits (net s) (keptIn (s .args .nodes) l) (lastOf l) (s .args .u) 0) (s .pre .2) in
+    (q .roomy, s .pre .3, s .pre .1)
+
 loop-holds : tie.Need-loop-holds Inv-loop μ-loop
 loop-holds c =
-    let s = c .before .before .before .before in
+    let s = c .before .before .before .before .before in
     let l = s .args .room .now in (
-      omega (arith, c .leaving .ensures),
+      omega (arith, c .start-of .ensures),
       refl,
-      own-first (s .args .nodes) (s .args .table .now) (s .args .closed .now) (s .pre .0) (s .args .s) (s .args .goal) l l (s .args .root) (s .args .u) (s .args .d) (c .leaving .result) (c .leaving .ensures) (s .pre .2),
+      own-first (s .args .nodes) (s .args .table .now) (s .args .closed .now) (s .pre .0) (s .args .s) (s .args .goal) l l (s .args .root) (s .args .u) (s .args .d) (c .start-of .result) (c .start-of .ensures) (s .pre .2),
     )
 
 returns : tie.Need-returns Inv-loop μ-loop
@@ -92,7 +99,7 @@ own-spec =
     Inv-loop
     μ-loop
     (λ c. search needs)
-    (λ c κs. search needs)
+    start-of-requires
     loop-holds
     (λ c κs. c .loop-test .taken)
     (λ c. search needs)

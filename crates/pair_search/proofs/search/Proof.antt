@@ -1,4 +1,5 @@
--- The invariant: the search goes on between two nodes, and `key` is that of the first of the queue. At each turn one node more is done.
+-- The invariant: the search goes on between two nodes, and `key` is that of the first of the queue. At each turn one node more is done. The notes
+-- are those at first, for the search leaves them.
 use mathlib.Core.Path.{_≡_, refl, sym, subst, _∙_}
 use native.Mathlib.Omega.{arith}
 use borrow.Author.Needs.{needs}
@@ -10,9 +11,10 @@ use Rattle.reach.specs.declared.Stand.{Stand}
 use Rattle.reach.specs.Stand.{Stands, doneIn, Elsewhere}
 use Rattle.reach.specs.Steps.{Begun}
 use Rattle.reach.proofs.StandLaws.{else-same, else-trans, record-in}
+use Rattle.reach.proofs.NotesLaws.{leaving-else}
 use Rattle.reach.proofs.LookingLaws.{left}
 use Rattle.pair_room.specs.Room.{again}
-use Rattle.pair_room.proofs.RoomLaws.{again-stands}
+use Rattle.pair_room.proofs.RoomLaws.{again-stands, again-before}
 use Rattle.pair_search.specs.Turn.{Between}
 use Rattle.pair_search.proofs.TurnLaws.{between-start, between-queue, between-found, left-between, left-less}
 use Rattle.pair_search.proofs.search.Statement.{statement}
@@ -64,7 +66,13 @@ leave-requires : tie.Need-leave-requires Inv-loop μ-loop
 leave-requires c κs =
     let i = c .before in
     let a = i .before in
-    (begun (first a) .pre .0, a .loop .inv .3, omega (arith, i .loop-test .taken, a .loop .inv .2))
+    let p = first a in
+    let s = begun p in (
+      s .pre .0,
+      a .loop .inv .3,
+      omega (arith, i .loop-test .taken, a .loop .inv .2),
+      leaving-else again again-before (s .args .nodes) (s .args .table .now) (else-trans again (started p .elsewhere) (a .loop .inv .1)) (s .pre .4),
+    )
 
 -- after a turn
 next : (v : tie.After-leave Inv-loop μ-loop)

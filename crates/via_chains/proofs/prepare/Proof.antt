@@ -75,8 +75,8 @@ roomy₂ c = roomy-same (roomy₁ (searched c)) (c .all .ensures .0 .long)
 noted₂ : (c : tie.After-all) → LeavingNoted (from-goal (searched c) .args .ask .nodes) (from-goal (searched c) .args .table .now) (c .all .last .1 .1 .1 .1 .0)
 noted₂ c = leaving-same _ _ _ _ (λ v. c .all .ensures .0 .field 4 v 56 refl refl) (noted₁ (searched c))
 
-noted-requires : tie.Need-noted-requires
-noted-requires c κs =
+search-requires-2 : tie.Need-search-requires-2
+search-requires-2 c κs =
     let f = c .before in
     let p = f .before .before .before in
     let s = from-goal (searched p) in
@@ -84,27 +84,27 @@ noted-requires c κs =
 
 -- ---- after the search from s
 
-abbrev picked : tie.After-noted → tie.After-all
+abbrev picked : tie.After-search2 → tie.After-all
 picked c = c .before .before .before .before .before
 
-abbrev from-s : tie.After-noted → tie.Start
+abbrev from-s : tie.After-search2 → tie.Start
 from-s c = from-goal (searched (picked c))
 
-abbrev room₃ : tie.After-noted → List ℕ
-room₃ c = c .noted .last .1 .1 .1 .1 .1 .0
+abbrev room₃ : tie.After-search2 → List ℕ
+room₃ c = c .search2 .last .1 .1 .1 .1 .1 .0
 
-found-s : (c : tie.After-noted) → Found (net (from-s c)) (from-s c .args .ask .s) far (distIn forth (from-s c .args .ask .nodes) (room₃ c)) (lastIn forth (room₃ c))
+found-s : (c : tie.After-search2) → Found (net (from-s c)) (from-s c .args .ask .s) far (distIn forth (from-s c .args .ask .nodes) (room₃ c)) (lastIn forth (room₃ c))
 found-s c =
     let s = from-s c in
-    found-by (net s) (s .args .ask .s) (s .args .ask .nodes) (room₃ c) (c .before .before .forth .result) forth (c .before .before .forth .ensures) (c .noted .ensures .1)
+    found-by (net s) (s .args .ask .s) (s .args .ask .nodes) (room₃ c) (c .before .before .forth .result) forth (c .before .before .forth .ensures) (c .search2 .ensures .1)
 
-roomy₃ : (c : tie.After-noted) → Roomy (from-s c .args .ask .nodes) (room₃ c)
-roomy₃ c = roomy-same (roomy₂ (picked c)) (c .noted .ensures .0 .long)
+roomy₃ : (c : tie.After-search2) → Roomy (from-s c .args .ask .nodes) (room₃ c)
+roomy₃ c = roomy-same (roomy₂ (picked c)) (c .search2 .ensures .0 .long)
 
-noted₃ : (c : tie.After-noted) → LeavingNoted (from-s c .args .ask .nodes) (from-s c .args .table .now) (room₃ c)
+noted₃ : (c : tie.After-search2) → LeavingNoted (from-s c .args .ask .nodes) (from-s c .args .table .now) (room₃ c)
 noted₃ c =
     let f = c .before .before in
-    leaving-else (f .forth .result) (before-forth (f .forth .result) (f .forth .ensures)) _ _ (c .noted .ensures .0) (noted₂ (picked c))
+    leaving-else (f .forth .result) (before-forth (f .forth .result) (f .forth .ensures)) _ _ (c .search2 .ensures .0) (noted₂ (picked c))
 
 all-requires-2 : tie.Need-all-requires-2
 all-requires-2 c κs =
@@ -114,7 +114,7 @@ all-requires-2 c κs =
 
 -- ---- after the walk
 
-abbrev second : tie.After-slice-known6 → tie.After-noted
+abbrev second : tie.After-slice-known6 → tie.After-search2
 second c = c .before .before .before .before .before .before
 
 returns : tie.Need-returns
@@ -124,9 +124,9 @@ returns c =
     let p = picked b in
     let a = searched p in
     let s = from-s b in (
-      w .all2 .ensures .0 .long ∙ b .noted .ensures .0 .long ∙ p .all .ensures .0 .long ∙ a .search .ensures .0 .long ∙ noted (a .before .before) .note .ensures .0 .long,
+      w .all2 .ensures .0 .long ∙ b .search2 .ensures .0 .long ∙ p .all .ensures .0 .long ∙ a .search .ensures .0 .long ∙ noted (a .before .before) .note .ensures .0 .long,
       prepared-all (net s) (s .args .ask .s) (s .args .ask .goal) (room₁ a) (p .all .last .1 .1 .1 .1 .0) (room₃ b) (w .all2 .last .1 .1 .1 .1 .0) (b .before .before .forth .result)
-          (b .before .before .forth .ensures) (roomy-same (roomy₃ b) (w .all2 .ensures .0 .long)) (found-goal a) (p .all .ensures .0) (p .all .ensures .1) (b .noted .ensures .0) (found-s b)
+          (b .before .before .forth .ensures) (roomy-same (roomy₃ b) (w .all2 .ensures .0 .long)) (found-goal a) (p .all .ensures .0) (p .all .ensures .1) (b .search2 .ensures .0) (found-s b)
           (w .all2 .ensures .0) (w .all2 .ensures .1),
     )
 
@@ -139,7 +139,7 @@ prepare-spec =
     search-requires
     all-requires
     (λ c κs. search needs)
-    noted-requires
+    search-requires-2
     all-requires-2
     (λ c. search needs)
     returns)
