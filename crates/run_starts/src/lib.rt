@@ -13,8 +13,12 @@ ghost use Rattle.table.specs.Run.{runStart};
 // How far from the guess a start is looked for first.
 const REACH: usize = 64;
 
-// How many starts are kept.
-pub const KEPT: usize = 128;
+// How many starts are kept. Nodes that lie a power of two apart, as rows of a city may, then have
+// places of their own.
+pub const KEPT: usize = 131;
+
+// How many records behind the start of the node before are looked at.
+const STEPS: usize = 8;
 
 // Where the records of v would start if every node had as many of the n.
 fn guess(v: u32, nodes: u32, n: usize) -> usize
@@ -70,7 +74,7 @@ fn behind(table: &[u8], i: usize, v: u32, n: usize) -> usize
 }
 
 // The first arc that leaves v, or where it would stand.
-pub fn leaving(table: &[u8], nodes: u32, v: u32) -> usize
+fn leaving(table: &[u8], nodes: u32, v: u32) -> usize
     requires { ⌜ tableFault nodes (now table) ≡ good ⌝ }
     ensures { λ r. ⌜ r ≡ runStart (now (table .entry)) v ⌝ }
 {
@@ -105,25 +109,48 @@ fn starts_at(table: &[u8], nodes: u32, v: u32, g: usize) -> bool
     true
 }
 
-// The first arc that leaves v, or where it would stand, tried first at g.
-fn near(table: &[u8], nodes: u32, v: u32, g: u32) -> usize
+// The first record from g on that does not start below v, or where the looks at records end.
+fn onward(table: &[u8], v: u32, g: u32) -> usize {
+    let end = table.len() / table::arc::RECORD;
+    let stop = g as usize + STEPS;
+    let mut i = g as usize;
+    while i < end {
+        if stop <= i {
+            return i;
+        }
+        if v <= table::arc::from_of(table, i) {
+            return i;
+        }
+        i += 1;
+    }
+    i
+}
+
+// The first arc that leaves v, or where it would stand, tried first at g, and then from where those
+// of the node before it may start.
+fn near(table: &[u8], nodes: u32, v: u32, g: u32, before: u32) -> usize
     requires { ⌜ tableFault nodes (now table) ≡ good ⌝ }
     ensures { λ r. ⌜ r ≡ runStart (now (table .entry)) v ⌝ }
 {
     if starts_at(table, nodes, v, g as usize) {
         return g as usize;
     }
+    let next = onward(table, v, before);
+    if starts_at(table, nodes, v, next) {
+        return next;
+    }
     leaving(table, nodes, v)
 }
 
-// The same, tried first where it is kept, whatever is there; then it is kept.
+// The same, by what is kept of both nodes, whatever that is; then it is kept.
 pub fn kept(table: &[u8], nodes: u32, v: u32, starts: &mut [u32]) -> usize
-    requires { ⌜ (tableFault nodes (now table) ≡ good) × (128 ≤ length (now starts)) ⌝ }
+    requires { ⌜ (tableFault nodes (now table) ≡ good) × (131 ≤ length (now starts)) ⌝ }
     ensures { λ r. ⌜ (r ≡ runStart (now (table .entry)) v)
         × (length (now (starts .exit)) ≡ length (now (starts .entry))) ⌝ }
 {
     let i = v as usize % KEPT;
-    let first = near(table, nodes, v, starts[i]);
+    let j = (i + (KEPT - 1)) % KEPT;
+    let first = near(table, nodes, v, starts[i], starts[j]);
     starts[i] = first as u32;
     first
 }

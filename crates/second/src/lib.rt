@@ -21,7 +21,7 @@ pub enum Direction {
 // Whether the second table is not the arcs of a good first one in their order. Start nodes come again
 // soon, so where their arcs start is kept.
 fn wrong_by(table: &[u8], second: &[u8], nodes: u32, starts: &mut [u32]) -> bool
-    requires { ⌜ (tableFault nodes (now table) ≡ good) × (128 ≤ length (now starts)) ⌝ }
+    requires { ⌜ (tableFault nodes (now table) ≡ good) × (131 ≤ length (now starts)) ⌝ }
     ensures { λ r. ⌜ r ≡ wrongSecond nodes (now (table .entry)) (now (second .entry)) ⌝ }
 {
     if second.len() != table.len() {

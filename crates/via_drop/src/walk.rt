@@ -2,6 +2,7 @@
 // (`on` true). Each grows by one arc from node to node, so a node's number is kept once it is known.
 use search_ask::Ask;
 ghost use mathlib.Core.Path.{_≡_};
+ghost use mathlib.Core.Logic.{_⊎_};
 ghost use mathlib.Core.List.{[], _∷_};
 ghost use Prim.Native.Nat.{_+_, _*_, _≤_, _<_};
 ghost use lib.ListN.{length};
@@ -12,7 +13,7 @@ ghost use Rattle.search_ask.specs.Earlier.{routeIn, Formed};
 ghost use Rattle.search_driven.specs.Marks.{Filter};
 ghost use Rattle.first_routes.specs.Firsts.{far};
 ghost use Rattle.via_drop.specs.Walks.{numberAt, putNumber, arcBy, nextBy, distBy};
-ghost use Rattle.via_drop.specs.Walks.{totalBy, share, Dropping};
+ghost use Rattle.via_drop.specs.Walks.{unknown, totalBy, share, Dropping};
 
 // The offsets of the numbers, and of the arcs, in a node's record.
 pub const TO: usize = 40;
@@ -101,6 +102,30 @@ fn sum(table: &[u8], ask: Ask, slot: &[u32], marks: &[u64], room: &[u8], on: boo
     passed + known
 }
 
+// What is left behind an arc of an overlap: what is known there, or what the arc does not share.
+fn rest(
+    table: &[u8],
+    ask: Ask,
+    slot: &[u32],
+    marks: &[u64],
+    arc: usize,
+    left: u64,
+    known: u64,
+) -> u64
+    requires { ⌜ (Accepted ask (now table))
+        × (Filter (now table) (routeIn (now slot) ∷ []) (now marks))
+        × (arc < records (now table)) × (Formed (now slot))
+        × (share ask (now table) (routeIn (now slot)) arc ≤ left)
+        × ((known ≡ unknown) ⊎ (left ≡ share ask (now table) (routeIn (now slot)) arc + known)) ⌝ }
+    ensures { λ r. ⌜ left
+        ≡ share ask (now (table .entry)) (routeIn (now (slot .entry))) arc + r ⌝ }
+{
+    if known != UNKNOWN {
+        return known;
+    }
+    left - share_of(table, ask, slot, marks, arc)
+}
+
 // The same way again: x is the overlap of the way from v, and each node on it gets what is left.
 fn store(
     table: &[u8],
@@ -125,9 +150,9 @@ fn store(
     while known == UNKNOWN {
         let arc = arc_by(room, on, u) as usize;
         put_number(room, on, u, left);
-        left -= share_of(table, ask, slot, marks, arc);
         u = next_by(table, on, arc) as usize;
         known = number(room, on, u);
+        left = rest(table, ask, slot, marks, arc, left, known);
     }
 }
 

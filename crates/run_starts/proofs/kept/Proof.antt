@@ -8,13 +8,17 @@ use Rattle.run_starts.proofs.kept.Tie as tie
 
 cast-starts : tie.Need-cast-starts
 cast-starts c =
-    let s = c .before .before .before .before in
+    let s = c .before .before .before .before .before in
     omega (arith, c .near .ensures, run-le (s .args .table .now) (s .args .v), good-size (s .args .nodes) (s .args .table .now) (s .pre .0) .3)
 
 pub kept-spec : {M : Type 1} → statement M
 kept-spec =
     tie.close
     (tie.spec
+    (λ c. search needs)
+    (λ c. search needs)
+    (λ c. search needs)
+    (λ c. search needs)
     (λ c. search needs)
     (λ c. search needs)
     (λ c κs. search needs)
