@@ -1,13 +1,14 @@
 /* The library against two baselines in C, the plain one and the best one: times by size, k and threshold; with road numbers beside zeros; growth of time with labels;
- * large queries; via routes and pairs against a plain C of theirs; times of a road file and of files of accepted plans; the stack that each call needs.
+ * large queries; via routes, pairs and the most different of the near-shortest against a plain C of theirs; times of a road file and of files of accepted plans; the stack that each call needs.
  *
  *     bench [--quick | --large]     --quick: only drawn tables and the rows of the smallest network, with three legs; --large: the large queries to the library too
  *
- * Each query is put to all three, one for via routes or a pair to the library and their plain C, and all results are compared, of pairs the totals. Exits 1 if any differ, or if the library leaves a byte it should not. */
+ * Each query is put to all three, one for via routes, a pair or variety to the library and their plain C, and all results are compared, of pairs the totals. Exits 1 if any differ, or if the library leaves a byte it should not. */
 #define _POSIX_C_SOURCE 200809L
 
 #include "baseline.h"
 #include "best.h"
+#include "near.h"
 #include "network.h"
 #include "suurballe.h"
 #include "svp.h"
@@ -833,6 +834,183 @@ static void table_of_pairs(bool quick)
     }
 }
 
+#define LISTED 2048     /* slots of the list lent for the most different of the near-shortest */
+#define QUICK_LISTED 200
+#define EXHAUSTED 200   /* routes listed: the plain C looks at all sets of three, so that it is left out of a row with more */
+#define LIST_NODES 1024 /* the most nodes of these networks */
+
+typedef ojeonbut_reply (*variety_call)(const uint8_t *, size_t, uint32_t, uint32_t, uint32_t, uint32_t, uint32_t, uint32_t, const uint8_t *, size_t, uint32_t *, size_t, uint32_t *, size_t,
+                                       uint8_t *, size_t);
+
+struct variety_query {
+    const struct network *net;
+    struct leg leg;
+    uint32_t k, c, d;
+    size_t slots;
+    const uint8_t *closed;
+};
+
+static uint32_t library_list[MARGIN + LISTED * (LIST_NODES - 1) + MARGIN], plain_list[MARGIN + LISTED * (LIST_NODES - 1) + MARGIN];
+
+/* The words that are lent as a list: its slots, and two words that are none. */
+static size_t list_words(const struct variety_query *q) { return q->slots * (q->net->nodes - 1) + (q->net->nodes > 3 ? 2 : 0); }
+
+static ojeonbut_reply ask_variety(variety_call call, const struct variety_query *q, uint32_t *list, struct lent *m)
+{
+    const struct network *n = q->net;
+    return call(n->table, n->bytes, n->nodes, q->leg.start, q->leg.goal, q->k, q->c, q->d, q->closed, n->bytes / OJEONBUT_RECORD, list + MARGIN, list_words(q), m->area + MARGIN,
+                q->k * (n->nodes - 1), m->work + MARGIN * NODE_WORK, n->nodes * NODE_WORK);
+}
+
+static double timed_variety(variety_call call, const struct variety_query *q, uint32_t *list, struct lent *m, ojeonbut_reply *reply)
+{
+    memset(list, JUNK, (MARGIN + list_words(q) + MARGIN) * sizeof *list);
+    memset(m->area, JUNK, (MARGIN + (q->k + 1) * (q->net->nodes - 1) + MARGIN) * sizeof *m->area);
+    memset(m->work, JUNK, (MARGIN + q->net->nodes + MARGIN) * NODE_WORK);
+    double begin = seconds();
+    *reply = ask_variety(call, q, list, m);
+    return seconds() - begin;
+}
+
+/* The seconds of a call: those of the first, or the mean of repeats where it was short. */
+static double settled_variety(variety_call call, const struct variety_query *q, uint32_t *list, struct lent *m, double first)
+{
+    if (first >= SHORT)
+        return first;
+    uint32_t turns = 0;
+    double begin = seconds(), passed;
+    do {
+        ask_variety(call, q, list, m);
+        turns++;
+        passed = seconds() - begin;
+    } while (passed < SHORT);
+    return passed / turns;
+}
+
+/* What the library leaves as it should not, beside its answer, or NULL. */
+static const char *left_by_variety(const struct variety_query *q, ojeonbut_reply reply)
+{
+    const struct lent *m = &of_library;
+    size_t width = q->net->nodes - 1, words = list_words(q), listed = reply.outcome == OJEONBUT_FOUND ? reply.number * width : words, slots = q->k * width;
+    const uint32_t *list = library_list + MARGIN;
+    const uint8_t *work = m->work + MARGIN * NODE_WORK, *work_end = work + q->net->nodes * NODE_WORK;
+    if (!only(library_list, list, JUNK) || !only(list + listed, list + words + MARGIN, JUNK))
+        return "words of the list that are not to be written";
+    if (!only(m->area, m->area + MARGIN, JUNK) || !only(m->area + MARGIN + slots, m->area + MARGIN + slots + MARGIN, JUNK))
+        return "words before or after the slots";
+    if (!only(work, work_end, 0))
+        return "working room not all zero afterwards";
+    return only(m->work, work, JUNK) && only(work_end, work_end + MARGIN * NODE_WORK, JUNK) ? NULL : "bytes before or after the working room";
+}
+
+/* What differs between the library's answer and the plain C's, or NULL. */
+static const char *other_variety(const struct variety_query *q, ojeonbut_reply library, ojeonbut_reply plain)
+{
+    if (library.outcome != plain.outcome || library.number != plain.number)
+        return "outcome or number";
+    if (memcmp(library_list + MARGIN, plain_list + MARGIN, list_words(q) * sizeof *plain_list) != 0)
+        return "words of the list";
+    if (memcmp(of_library.area + MARGIN, of_baseline.area + MARGIN, q->k * (q->net->nodes - 1) * sizeof *of_library.area) != 0)
+        return "words of the slots";
+    return left_by_variety(q, library);
+}
+
+/* Counts the query, and prints the first that differs. */
+static void compare_variety(const struct variety_query *q, ojeonbut_reply library, ojeonbut_reply plain)
+{
+    const char *what = other_variety(q, library, plain);
+    if (what && queries == agreed)
+        printf("the first difference: variety, library and plain C: %s\n  %" PRIu32 " nodes, start %" PRIu32 ", goal %" PRIu32 ", k %" PRIu32 ", range %" PRIu32 "/%" PRIu32
+               ", %zu slots; library %" PRIu32 " beside %" PRIu32 ", plain C %" PRIu32 " beside %" PRIu32 "\n",
+               what, q->net->nodes, q->leg.start, q->leg.goal, q->k, q->c, q->d, q->slots, library.number, library.outcome, plain.number, plain.outcome);
+    queries++;
+    agreed += !what;
+}
+
+/* Drawn queries over drawn small tables, with ties and closures, and lists that may be too small. */
+static void trials_of_variety(uint32_t n)
+{
+    static uint8_t closed[OJEONBUT_ARCS];
+    uint64_t seed = SEED;
+    uint32_t ended[OJEONBUT_TOO_FEW + 1] = {0};
+    for (uint32_t i = 0; i < n; i++) {
+        uint32_t nodes = 2 + network_draw(&seed, 7);
+        network_scatter(&net, nodes, 4, 1 + network_draw(&seed, 4), 0, &seed);
+        struct variety_query q = {.net = &net, .k = 1 + network_draw(&seed, 4), .d = 1 + network_draw(&seed, 10), .slots = network_draw(&seed, 40), .closed = closed};
+        q.c = network_draw(&seed, q.d + 1);
+        q.leg.start = network_draw(&seed, nodes);
+        q.leg.goal = (q.leg.start + 1 + network_draw(&seed, nodes - 1)) % nodes;
+        for (size_t a = 0; a < net.bytes / OJEONBUT_RECORD; a++)
+            closed[a] = network_draw(&seed, 12) == 0;
+        ojeonbut_reply library, plain;
+        timed_variety(ojeonbut_variety, &q, library_list, &of_library, &library);
+        timed_variety(near_variety, &q, plain_list, &of_baseline, &plain);
+        compare_variety(&q, library, plain);
+        ended[plain.outcome]++;
+    }
+    printf("%" PRIu32 " queries over drawn small tables: outcome 0 in %" PRIu32 ", 23 in %" PRIu32 ", 24 in %" PRIu32 "\n", n, ended[OJEONBUT_FOUND], ended[OJEONBUT_LIST_FULL],
+           ended[OJEONBUT_TOO_FEW]);
+}
+
+/* The milliseconds of a call, and the microseconds for each route listed. */
+static void print_variety(double s, uint32_t listed) { printf(" %12.3f %9.3f", s * 1e3, s * 1e6 / listed); }
+
+/* A row: the library for one route, which lists only, and for three. Whether the list sufficed. */
+static bool row_of_variety(struct leg leg, uint32_t c, uint32_t d, size_t slots)
+{
+    struct variety_query q = {.net = &net, .leg = leg, .k = 1, .c = c, .d = d, .slots = slots, .closed = none_closed};
+    ojeonbut_reply one, three, plain;
+    double first = timed_variety(ojeonbut_variety, &q, library_list, &of_library, &one);
+    char range[24];
+    snprintf(range, sizeof range, "%" PRIu32 "/%" PRIu32, c, d);
+    printf("%6" PRIu32 "  %-6s", net.nodes, range);
+    if (one.outcome != OJEONBUT_FOUND) {
+        printf("  more than %zu, told in %.3f ms\n", slots, first * 1e3);
+        return false;
+    }
+    first = settled_variety(ojeonbut_variety, &q, library_list, &of_library, first);
+    q.k = 3;
+    double whole = timed_variety(ojeonbut_variety, &q, library_list, &of_library, &three), exhaustive = 0;
+    if (three.number <= EXHAUSTED) {
+        exhaustive = timed_variety(near_variety, &q, plain_list, &of_baseline, &plain);
+        compare_variety(&q, three, plain);
+        exhaustive = settled_variety(near_variety, &q, plain_list, &of_baseline, exhaustive);
+    }
+    whole = settled_variety(ojeonbut_variety, &q, library_list, &of_library, whole);
+    printf(" %7" PRIu32, one.number);
+    print_variety(first, one.number);
+    if (three.outcome == OJEONBUT_FOUND)
+        print_variety(whole, three.number);
+    else
+        printf(" %12s %9s", "-", "-");
+    if (three.number <= EXHAUSTED)
+        printf(" %12.3f\n", exhaustive * 1e3);
+    else
+        printf(" %12s\n", "-");
+    fflush(stdout);
+    return true;
+}
+
+/* How the time goes with the number listed. */
+static void table_of_variety(bool quick)
+{
+    static const uint32_t ranges[] = {0, 1, 2, 3, 4, 5, 6, 8, 10, 12, 14, 16, 18, 20}, widths[] = {8, 16, 32};
+    printf("\nVariety. The most different of the near-shortest, a leg of 3 + 3 blocks, or 6 + 6 from 256 nodes on, with c/d growing. Listed: the routes in range, which the call for one route only\n"
+           "lists; that for three chooses too. Plain C: bench/near.c, which looks at all sets of three, up to %d routes.\n",
+           EXHAUSTED);
+    trials_of_variety(quick ? QUICK_TRIALS : TRIALS);
+    printf(" nodes  c/d     listed     k = 1 ms  us/route     k = 3 ms  us/route   plain C ms\n");
+    for (size_t n = 0; n < (quick ? 1 : sizeof widths / sizeof *widths); n++) {
+        uint64_t seed = widths[n];
+        uint32_t blocks = widths[n] < 16 ? 3 : 6;
+        bool sufficed = true;
+        make(&net, widths[n], widths[n], LONGEST);
+        struct leg leg = network_leg(&net, blocks, blocks, &seed);
+        for (size_t i = 0; sufficed && i < sizeof ranges / sizeof *ranges; i++)
+            sufficed = row_of_variety(leg, ranges[i], 20, quick ? QUICK_LISTED : LISTED);
+    }
+}
+
 /* A drawn query over a drawn small table with many ties, roads of several arcs and closed arcs, in a room that may be too small. */
 static void trial(uint64_t *seed, struct row *row)
 {
@@ -991,6 +1169,46 @@ static void stack_of_pair(uint32_t longest)
     size_t bytes = stack_of(work_pair);
     compare_pair(&q, answered, ask(&suurballe_search, &q, &of_baseline));
     printf("  ojeonbut_pair       %7zu  from corner to corner, lengths from 1 to %" PRIu32 "\n", bytes, longest);
+    fflush(stdout);
+}
+
+/* Of the most different of the near-shortest. On a line of `steps` arcs, the first of them doubled, there are two routes, each a level of the listing for every arc: the bytes of a level
+ * are the difference of two lines over that of their arcs. With as many arcs beside each other as there are routes in the list, the levels of the choice are k. */
+static struct variety_query asked_variety;
+static void work_variety(void) { answered = ask_variety(ojeonbut_variety, &asked_variety, library_list, &of_library); }
+
+/* A line from the last node down to node 0: an arc from each to the next, and from the last `beside` of them. */
+static void make_line(uint32_t steps, uint32_t beside)
+{
+    net.nodes = steps + 1;
+    net.bytes = (steps - 1 + beside) * (size_t)OJEONBUT_RECORD;
+    for (uint32_t a = 0; a < steps - 1 + beside; a++) {
+        uint32_t from = a < steps ? a + 1 : steps, part[] = {from, from - 1, 1000, 0};
+        for (int i = 0; i < 16; i++)
+            net.table[a * OJEONBUT_RECORD + i] = (uint8_t)(part[i / 4] >> 8 * (i % 4));
+    }
+    check(&net);
+}
+
+static size_t stack_of_line(uint32_t steps, uint32_t beside, uint32_t k)
+{
+    make_line(steps, beside);
+    asked_variety = (struct variety_query){.net = &net, .leg = {steps, 0}, .k = k, .c = 0, .d = 1, .slots = beside, .closed = none_closed};
+    size_t bytes = stack_of(work_variety);
+    queries++;
+    agreed += answered.outcome == OJEONBUT_FOUND && answered.number == beside;
+    return bytes;
+}
+
+static void stack_of_variety(void)
+{
+    enum { FEW = 100, MANY = 1000 };
+    size_t few = stack_of_line(FEW, 2, 1), many = stack_of_line(MANY, 2, 1);
+    size_t one = stack_of_line(1, OJEONBUT_ROUTES, 1), twelve = stack_of_line(1, OJEONBUT_ROUTES, OJEONBUT_ROUTES);
+    printf("  ojeonbut_variety    %7zu  k = %d, routes of one arc; of them %.1f for each level of the choice after the first\n", twelve, OJEONBUT_ROUTES,
+           (double)(twelve - one) / (OJEONBUT_ROUTES - 1));
+    printf("                      %7zu  k = 1, routes of %d arcs, and %zu of %d: %.1f for each level of the listing, one for each arc of the longest route in range\n", many, MANY, few, FEW,
+           (double)(many - few) / (MANY - FEW));
     fflush(stdout);
 }
 
@@ -1193,7 +1411,8 @@ static void table_of_stack(void)
     stack_of_via(1);
     stack_of_pair(LONGEST);
     stack_of_pair(1);
-    printf("Memory: %d bytes a label, lent by the caller: %d for room %d, %d for the greatest room. Of via routes and a pair %d bytes a node: %d for the most nodes.\n", OJEONBUT_LABEL,
+    stack_of_variety();
+    printf("Memory: %d bytes a label, lent by the caller: %d for room %d, %d for the greatest room. Of via routes, a pair and variety %d bytes a node: %d for the most nodes.\n", OJEONBUT_LABEL,
            ROOM * OJEONBUT_LABEL, ROOM, OJEONBUT_LABELS * OJEONBUT_LABEL, NODE_WORK, OJEONBUT_NODES * NODE_WORK);
 }
 
@@ -1216,6 +1435,7 @@ int main(int argc, char **argv)
     table_of_numbers(quick);
     table_of_via(quick);
     table_of_pairs(quick);
+    table_of_variety(quick);
     if (!quick) {
         table_of_growth();
         table_of_region();

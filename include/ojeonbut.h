@@ -2,7 +2,7 @@
  *
  * What the caller must ensure, for every call: each pointer is valid for the length given with it and not NULL, also where that length is 0, for
  * writing where it is not const; no buffer that is written overlaps another buffer of the same call; nothing else changes any of them during the call;
- * `area`, `slots`, `summaries` and `ratios` are aligned for their types. Nothing else: any bytes, any numbers and any lengths are taken, and what is wrong is refused.
+ * `area`, `list`, `slots`, `summaries` and `ratios` are aligned for their types. Nothing else: any bytes, any numbers and any lengths are taken, and what is wrong is refused.
  *
  * The calls keep nothing between them, allocate nothing, and may run in several threads at once on different buffers. docs/FIGURES.md has the stack they need.
  * Link libojeonbut.a, which is for x86-64 Linux. */
@@ -17,7 +17,7 @@ extern "C" {
 #endif
 
 /* The version that this header declares; ojeonbut_version() gives the archive's. It goes up with every change that a caller can see: docs/CHANGES.md. */
-#define OJEONBUT_VERSION 9
+#define OJEONBUT_VERSION 10
 
 /* A road table: arc records of 16 bytes, little-endian: start node, end node, length, road number (bytes 12 to 15); 4 bytes each. Records stand in order of start node.
  * An arc's number is its record's, from 0; a node's is below the node count. Arcs that have one road number other than 0 are of one road, as both sides of a street are;
@@ -30,13 +30,14 @@ extern "C" {
 #define OJEONBUT_LABEL 128      /* bytes of a label */
 #define OJEONBUT_LABELS 65535   /* the most whole labels that may be lent */
 #define OJEONBUT_WORK 64        /* bytes of working room for each node */
+#define OJEONBUT_D 1000         /* the greatest d of ojeonbut_variety; the least is 1 */
 #define OJEONBUT_NONE 4294967295u /* a word of a slot that holds no arc */
 #define OJEONBUT_PLAN_RECORD 32 /* bytes of a record in a file of accepted plans */
 #define OJEONBUT_PLAN_WIDTH 65535 /* the most words of a slot that a plan is stored from */
 
 /* The outcomes. `number` is what stands beside each in ojeonbut_reply; where none is named it is 0. 12 and 25 are the desk program's, for malformed text and for its old form: no call gives them. */
 enum ojeonbut_outcome {
-    OJEONBUT_FOUND = 0,     /* all k routes found; from ojeonbut_pair: the pair found; from ojeonbut_check: the table has no fault; from the calls for road files and for plans: done; number, from ojeonbut_plan_fetch: the routes */
+    OJEONBUT_FOUND = 0,     /* all k routes found; from ojeonbut_pair: the pair found; from ojeonbut_variety: the k routes chosen, number: the routes listed; from ojeonbut_check: the table has no fault; from the calls for road files and for plans: done; number, from ojeonbut_plan_fetch: the routes */
     OJEONBUT_FEWER = 1,     /* fewer than k routes found, and no further one exists */
     OJEONBUT_NODE = 2,      /* a record names a node not below the node count; number: the record */
     OJEONBUT_LOOP = 3,      /* a record starts and ends at one node; number: the record */
@@ -57,6 +58,9 @@ enum ojeonbut_outcome {
     OJEONBUT_PLAN_ROOM = 19, /* fewer free records than the plan needs */
     OJEONBUT_SECOND = 20,   /* a second table is not the first one's arcs in order of end node and then arc number */
     OJEONBUT_NO_PAIR = 21,  /* no two routes from start to goal share no arc */
+    OJEONBUT_RANGE = 22,    /* d outside 1 to 1,000, or c above d */
+    OJEONBUT_LIST_FULL = 23, /* more routes in range than the list has whole slots */
+    OJEONBUT_TOO_FEW = 24,  /* fewer than k routes in range */
     OJEONBUT_NUMBERED = 27  /* a table to be written as a road file has a road number other than 0; number: the record, the lowest such */
 };
 
@@ -160,6 +164,27 @@ ojeonbut_reply ojeonbut_query_via(const uint8_t *table, size_t table_bytes, cons
  *   work       every byte is zero, those past OJEONBUT_WORK * nodes too. What it holds at first does not matter. */
 ojeonbut_reply ojeonbut_pair(const uint8_t *table, size_t table_bytes, uint32_t nodes, uint32_t start, uint32_t goal, const uint8_t *closed, size_t closed_bytes,
                              uint32_t *area, size_t area_words, ojeonbut_summary *summaries, size_t summary_count, uint8_t *work, size_t work_bytes);
+
+/* The most different of the near-shortest: k of the routes from start to goal that are at most c/d of the shortest longer than it. A route is in range where its length times d is
+ * at most d + c times that of the shortest; equality is in range. All routes in range are listed, each once: the shorter first, of equally long ones the one with the lower arc
+ * number where they first differ. A route's rank is its place in this list, from 0. Two routes are as dissimilar as one minus the length of the arcs that stand on both over the
+ * length of those that stand on one of them at least: by arc number, road numbers set aside. Of all sets of k routes of the list that one is chosen whose least dissimilar two are
+ * the most dissimilar, compared as whole-number fractions, without rounding; of equal sets the one whose ranks come first: the lower rank where they first differ. For k = 1 it is
+ * the shortest route. Routes visit no node twice, and closures are those of ojeonbut_query_closed: they have open arcs only.
+ *
+ * `list` holds list_words / (nodes - 1) routes, at most 4,294,967,295, and is never a cause for 10. How many routes are in range grows fast with c/d, and the time with them. The stack grows with the
+ * longest route in range, by some bytes for each of its arcs: for a route of 65,535 arcs it is more than the 8 MB that a program usually has. docs/FIGURES.md has both.
+ * Checks come in the order 13, the records (2 to 6), 15, 7, 8, 10, 22. 10 is: area under k * (nodes - 1) words, or work_bytes below OJEONBUT_WORK * nodes. Then the outcome is 23
+ * exactly where more routes are in range than the list holds; else 24 exactly where fewer than k are; else 0, with the number of routes listed beside it.
+ *
+ * After a refusal of these checks (2 to 8, 10, 13, 15 and 22) no byte of any buffer is changed. After 0, 23 or 24:
+ *   list       after 0, slots of nodes - 1 words, one after the other: the arc numbers of the route of rank 0, 1 and so on, in order, then OJEONBUT_NONE. Words after the slot of
+ *              the last route listed are untouched. After 23 or 24 every word is OJEONBUT_NONE, those past the last whole slot too.
+ *   area       k such slots: the chosen routes by rank. After 23 or 24 all words of the k slots are OJEONBUT_NONE. Words after the k-th slot are untouched.
+ *   work       every byte is zero, those past OJEONBUT_WORK * nodes too. What it holds at first does not matter. */
+ojeonbut_reply ojeonbut_variety(const uint8_t *table, size_t table_bytes, uint32_t nodes, uint32_t start, uint32_t goal, uint32_t k, uint32_t c, uint32_t d,
+                                const uint8_t *closed, size_t closed_bytes, uint32_t *list, size_t list_words, uint32_t *area, size_t area_words, uint8_t *work,
+                                size_t work_bytes);
 
 /* The run of one node, by direction: 0, where the records of the arcs that leave `node` stand in `table`; 1, where those of the arcs that come to it stand in `second`, by rising
  * arc number. The part's place is one in that table. { 0, 0 } for another direction, where the table has a fault (13 or 2 to 6), where the second table is not its arcs in order

@@ -3,7 +3,7 @@
 //! What that header asks of a caller, Rust's slices ensure: they are valid for their lengths, and a `&mut` one overlaps no other.
 
 /// The version of include/ojeonbut.h that these calls are for. Each call asks once that the archive linked is of it, and panics where it is not.
-pub const VERSION: u32 = 9;
+pub const VERSION: u32 = 10;
 
 /// Bytes of a label.
 pub const LABEL: usize = 128;
@@ -22,7 +22,7 @@ pub const NONE: u32 = u32::MAX;
 
 /// The outcomes, by number. What the number beside each says is in include/ojeonbut.h.
 pub mod outcome {
-    /// All k routes found; from `pair`: the pair found; from `check`: the table has no fault; from the calls for road files and for plans: done.
+    /// All k routes found; from `pair`: the pair found; from `variety`: the k routes chosen, beside it the number listed; from `check`: the table has no fault; from the calls for road files and for plans: done.
     pub const FOUND: u32 = 0;
     /// Fewer than k routes found, and no further one exists.
     pub const FEWER: u32 = 1;
@@ -63,6 +63,12 @@ pub mod outcome {
     pub const SECOND: u32 = 20;
     /// No two routes from start to goal share no arc.
     pub const NO_PAIR: u32 = 21;
+    /// d outside 1 to 1,000, or c above d.
+    pub const RANGE: u32 = 22;
+    /// More routes in range than the list has whole slots.
+    pub const LIST_FULL: u32 = 23;
+    /// Fewer than k routes in range.
+    pub const TOO_FEW: u32 = 24;
     /// A table to be written as a road file has a road number other than 0; beside it stands the record.
     pub const NUMBERED: u32 = 27;
 }
@@ -208,6 +214,24 @@ mod raw {
             area_words: usize,
             summaries: *mut Summary,
             summary_count: usize,
+            work: *mut u8,
+            work_bytes: usize,
+        ) -> Reply;
+        pub fn ojeonbut_variety(
+            table: *const u8,
+            table_bytes: usize,
+            nodes: u32,
+            start: u32,
+            goal: u32,
+            k: u32,
+            c: u32,
+            d: u32,
+            closed: *const u8,
+            closed_bytes: usize,
+            list: *mut u32,
+            list_words: usize,
+            area: *mut u32,
+            area_words: usize,
             work: *mut u8,
             work_bytes: usize,
         ) -> Reply;
@@ -421,6 +445,45 @@ pub fn pair(table: &[u8], nodes: u32, start: u32, goal: u32, closed: &[u8], area
             area.len(),
             summaries.as_mut_ptr(),
             summaries.len(),
+            work.as_mut_ptr(),
+            work.len(),
+        )
+    }
+}
+
+/// The most different k of the routes at most c/d of the shortest longer than it, while roads are closed: `range` is c/d, `list` takes all routes in range in slots of
+/// `nodes - 1` words, `work` has at least `WORK` bytes for each node.
+#[allow(clippy::too_many_arguments)]
+pub fn variety(
+    table: &[u8],
+    nodes: u32,
+    start: u32,
+    goal: u32,
+    k: u32,
+    range: (u32, u32),
+    closed: &[u8],
+    list: &mut [u32],
+    area: &mut [u32],
+    work: &mut [u8],
+) -> Reply {
+    ask_version();
+    // SAFETY: each slice is valid for its length; the three that are written are borrowed mutably, so they overlap nothing.
+    unsafe {
+        raw::ojeonbut_variety(
+            table.as_ptr(),
+            table.len(),
+            nodes,
+            start,
+            goal,
+            k,
+            range.0,
+            range.1,
+            closed.as_ptr(),
+            closed.len(),
+            list.as_mut_ptr(),
+            list.len(),
+            area.as_mut_ptr(),
+            area.len(),
             work.as_mut_ptr(),
             work.len(),
         )

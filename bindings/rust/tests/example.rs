@@ -1,5 +1,5 @@
 //! The scope's example through the safe calls.
-use ojeonbut::{arcs_from, check, next_arc, outcome, pair, plan_collect, plan_fetch, plan_store, plan_withdraw, query, query_closed, query_ratios, query_via, read_roads, run, version, write_roads};
+use ojeonbut::{arcs_from, check, next_arc, outcome, pair, plan_collect, plan_fetch, plan_store, plan_withdraw, query, query_closed, query_ratios, query_via, read_roads, run, variety, version, write_roads};
 use ojeonbut::{Direction, Made, Ratios, Reply, Summary, LABEL, NONE, PLAN_RECORD, PLAN_WIDTH, VERSION, WORK};
 
 fn table() -> Vec<u8> {
@@ -109,6 +109,37 @@ fn pairs() {
     assert_eq!(pair(&table, 4, 0, 3, &[0, 0, 0, 1, 0], &mut area, &mut summaries, &mut work), reply(outcome::NO_PAIR, 0));
     assert_eq!(area, [NONE, NONE, NONE, NONE, NONE, NONE, 7]);
     assert_eq!(summaries.map(|s| (s.length, s.arcs, s.labels)), [(0, 0, 0), (0, 0, 0), (7, 7, 7)]);
+    assert!(work.iter().all(|&b| b == 0));
+}
+
+#[test]
+fn most_different() {
+    // of lengths 3, 4, 4, 5 and 6; the most dissimilar two are the third and the last, but the best three are the three in the middle
+    let arcs: [[u32; 4]; 6] = [[0, 1, 1, 0], [1, 2, 1, 0], [1, 2, 3, 0], [1, 3, 3, 0], [2, 3, 1, 0], [2, 3, 2, 0]];
+    let table: Vec<u8> = arcs.iter().flatten().flat_map(|v| v.to_le_bytes()).collect();
+    let mut list = [7u32; 17];
+    let mut area = [7u32; 10];
+    let mut work = [85u8; 4 * WORK + 5];
+    assert_eq!(variety(&table, 4, 3, 3, 3, (1, 1), &[0; 6], &mut list, &mut area, &mut work), reply(outcome::ENDS, 0));
+    assert_eq!(variety(&table, 4, 0, 3, 13, (1, 1), &[0; 6], &mut list, &mut area, &mut work), reply(outcome::WANTED, 0));
+    assert_eq!(variety(&table, 4, 0, 3, 3, (1, 1), &[0; 5], &mut list, &mut area, &mut work), reply(outcome::CLOSURES, 0));
+    assert_eq!(variety(&table, 4, 0, 3, 3, (1, 1), &[0; 6], &mut list, &mut area[..8], &mut work), reply(outcome::BUFFERS, 0));
+    assert_eq!(variety(&table, 4, 0, 3, 3, (1, 1), &[0; 6], &mut list, &mut area, &mut work[..4 * WORK - 1]), reply(outcome::BUFFERS, 0));
+    assert_eq!(variety(&table, 4, 0, 3, 3, (2, 1), &[0; 6], &mut list, &mut area, &mut work), reply(outcome::RANGE, 0));
+    assert_eq!(variety(&table, 4, 0, 3, 3, (0, 1001), &[0; 6], &mut list, &mut area, &mut work), reply(outcome::RANGE, 0));
+    assert!(work.iter().all(|&b| b == 85) && area == [7; 10] && list == [7; 17]);
+    assert_eq!(variety(&table, 4, 0, 3, 3, (1, 1), &[0; 6], &mut list, &mut area, &mut work), reply(outcome::FOUND, 5));
+    assert_eq!(list, [0, 1, 4, 0, 1, 5, 0, 3, NONE, 0, 2, 4, 0, 2, 5, 7, 7]);
+    assert_eq!(area, [0, 1, 5, 0, 3, NONE, 0, 2, 4, 7]);
+    assert!(work.iter().all(|&b| b == 0));
+    work.fill(85);
+    assert_eq!(variety(&table, 4, 0, 3, 2, (1, 1), &[0; 6], &mut list[..14], &mut area, &mut work), reply(outcome::LIST_FULL, 0));
+    assert_eq!((&list[..14], &list[14..]), (&[NONE; 14][..], &[5, 7, 7][..]));
+    assert_eq!(area, [NONE, NONE, NONE, NONE, NONE, NONE, 0, 2, 4, 7]);
+    assert!(work.iter().all(|&b| b == 0));
+    work.fill(85);
+    assert_eq!(variety(&table, 4, 0, 3, 3, (0, 1), &[0; 6], &mut list, &mut area, &mut work), reply(outcome::TOO_FEW, 0));
+    assert_eq!((list, area), ([NONE; 17], [NONE, NONE, NONE, NONE, NONE, NONE, NONE, NONE, NONE, 7]));
     assert!(work.iter().all(|&b| b == 0));
 }
 

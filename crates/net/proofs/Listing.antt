@@ -31,7 +31,7 @@ module _ (net : Net) (s : ℕ) where
   new : List ℕ → ℕ → Bool
   new p a = not (has (arc (net .arcs) a .to) (visited (net .arcs) s p))
 
-  extension-e : (p x : List ℕ) → List·Memᴰ x (extensions net s p) → (a : ℕ) × Next net s p a × (x ≡ p ++ (a ∷ []))
+  pub extension-e : (p x : List ℕ) → List·Memᴰ x (extensions net s p) → (a : ℕ) × Next net s p a × (x ≡ p ++ (a ∷ []))
   unfolding extensions new
   extension-e p x m =
       let w = Memᴰ·of-map (λ a. p ++ (a ∷ [])) (keep (new p) (leaving net (endOf (net .arcs) s p))) m in
@@ -44,7 +44,7 @@ module _ (net : Net) (s : ℕ) where
         sym (w .2),
       )
 
-  extension-i : (p : List ℕ) (a : ℕ) → Next net s p a → List·Memᴰ (p ++ (a ∷ [])) (extensions net s p)
+  pub extension-i : (p : List ℕ) (a : ℕ) → Next net s p a → List·Memᴰ (p ++ (a ∷ [])) (extensions net s p)
   unfolding extensions new
   extension-i p a n =
       Memᴰ·map (λ b. p ++ (b ∷ []))

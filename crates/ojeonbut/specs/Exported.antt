@@ -16,7 +16,7 @@ use Rattle.ojeonbut.specs.declared.MadeNumbers.{MadeNumbers}
 
 -- The version of the calls: it goes up with every change that a caller can see.
 abbrev pub version : ℕ
-version = 9
+version = 10
 
 -- The run of node v, by the place of its first byte and its number of bytes.
 unfoldable pub runPart : List ℕ → ℕ → Part

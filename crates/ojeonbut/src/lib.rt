@@ -12,6 +12,7 @@ ghost use Rattle.query_ratios.specs.Rated.{RepliedRatios};
 ghost use Rattle.second.specs.Second.{wrongSecond};
 ghost use Rattle.query_via.specs.Via.{input as inputVia, Replied as RepliedVia};
 ghost use Rattle.query_pair.specs.Pair.{input as inputPair, Replied as RepliedPair};
+ghost use Rattle.query_variety.specs.Call.{input as inputVariety, Replied as RepliedVariety};
 ghost use Rattle.plan_store.specs.Store.{Stored};
 ghost use Rattle.plan_fetch.specs.Fetch.{Fetched};
 ghost use Rattle.plan_change.specs.Change.{Withdrawn, Collected};
@@ -21,7 +22,7 @@ ghost use Rattle.ojeonbut.specs.Exported.{version, runPart, partOf, comi
 ghost use Rattle.ojeonbut.specs.Exported.{runPartBy, numbersOf, Numbered};
 
 // OJEONBUT_VERSION of include/ojeonbut.h.
-const VERSION: u32 = 9;
+const VERSION: u32 = 10;
 
 // The directions of ojeonbut_run: the arcs that leave a node, and those that come to it.
 const LEAVING: u32 = 0;
@@ -313,6 +314,29 @@ pub extern "C" fn ojeonbut_pair(
     let n = g.n;
     summary::write(sums, x, n);
     g.told
+}
+
+// The k most different of the simple routes over the open arcs whose length times d is at most d + c
+// times the shortest; all of these are listed, and their number stands beside outcome 0.
+#[no_mangle]
+pub extern "C" fn ojeonbut_variety(
+    table: &[u8],
+    nodes: u32,
+    s: u32,
+    goal: u32,
+    k: u32,
+    c: u32,
+    d: u32,
+    closed: &[u8],
+    list: &mut [u32],
+    area: &mut [u32],
+    work: &mut [u8],
+) -> Told
+    ensures { λ r. ⌜ RepliedVariety (inputVariety (now (table .entry)) nodes s goal k c d
+        (now (closed .entry)) (now (list .entry)) (now (area .entry)) (now (work .entry))) r
+        (now (list .exit)) (now (area .exit)) (now (work .exit)) ⌝ }
+{
+    query_variety::core(table, nodes, s, goal, k, c, d, closed, list, area, work)
 }
 
 // The next open arc from `place` on, or `end`.

@@ -89,6 +89,18 @@ secondTable = 20
 abbrev pub noPair : ℕ
 noPair = 21
 
+-- "d outside 1 to 1,000 or c above d" (02.12)
+abbrev pub rangeOut : ℕ
+rangeOut = 22
+
+-- "more such routes than the list has whole slots" (02.12)
+abbrev pub listFull : ℕ
+listFull = 23
+
+-- "fewer than k of them" (02.12)
+abbrev pub tooFew : ℕ
+tooFew = 24
+
 -- "old form" (02.13)
 abbrev pub oldForm : ℕ
 oldForm = 25

@@ -51,6 +51,12 @@ pub const SECOND: u32 = 20;
 
 pub const NO_PAIR: u32 = 21;
 
+pub const RANGE: u32 = 22;
+
+pub const LIST_FULL: u32 = 23;
+
+pub const TOO_FEW: u32 = 24;
+
 pub const OLD_FORM: u32 = 25;
 
 pub const NUMBERED: u32 = 27;

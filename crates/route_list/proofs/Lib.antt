@@ -1,0 +1,4 @@
+pub mod WordLaws
+pub mod ShiftLaws
+pub mod PlaceLaws
+pub mod MoveLaws

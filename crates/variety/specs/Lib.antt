@@ -1,0 +1,3 @@
+pub mod Choice
+pub mod Variety
+pub mod Deeper
