@@ -19,7 +19,7 @@ TOKEN = re.compile(rf"(?<![\w'-]){NAME}")
 # Two names that would fall together with one of the library or with a field.
 OTHERS = {"setAt": "set_entry", "isOpen": "is_open_at"}
 # Lemmas that would have the name of their function, and the folder where they are cited.
-LEMMAS = {"apart_by": "crates/", "in_order": "crates/near_list/", "pick_next": "crates/road_judge/"}
+LEMMAS = {"apart_by": "crates/", "insert_all": "crates/variety/", "in_order": "crates/near_list/", "pick_next": "crates/road_judge/"}
 
 
 def snake(name):

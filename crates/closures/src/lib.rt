@@ -1,5 +1,7 @@
 // Roads closed for the day: a byte for each arc, 0 open and 1 closed. Where no bytes are lent no arc
 // is closed.
+#![tactic(auto)]
+
 ghost use Rattle.std.specs.Prelude.{◌≡◌, not};
 ghost use Rattle.table.specs.Table.{is_open_at};
 ghost use Rattle.closures.specs.Closed.{wrong, next_open};

@@ -1,4 +1,6 @@
 // The desk program: feeds standard input part by part, and writes what is due for it.
+#![tactic(auto)]
+
 ghost use Rattle.std.specs.Prelude.{◌<◌};
 
 // More parts than any input has: a loop ends.

@@ -2,31 +2,30 @@
 -- the number of the `p` line; and in the table, where there is room for all arcs so far, these in file order. By induction over the input, from its front to its end:
 -- a byte changes each as it changes what the input says.
 use mathlib.Core.Path.{◌≡◌, refl, sym, ap, subst, ◌∙◌}
-use mathlib.Core.Bool.{Bool, true, false, not, ◌&&◌, ◌||◌, cond}
+use mathlib.Core.Bool.{Bool, true, false, ◌&&◌, ◌||◌, cond}
 use mathlib.Core.List.{List, [], ◌∷◌, ◌++◌, append-nil}
 use mathlib.Core.Logic.{◌⊎◌, inl, inr, ⊎_elim}
-use Prim.Native.Nat.{ℕ, suc, ◌+◌, ◌*◌, ◌≤◌, ◌<◌}
+use Prim.Native.Nat.{ℕ, ◌+◌, ◌*◌, ◌≤◌, ◌<◌}
 use native.Mathlib.Numerals.{add-one}
 use native.Mathlib.Omega.{arith}
 use lib.Dec.{ltb, eqb}
 use lib.ListN.{length, set, take, replicate, length-append, length-set, length-replicate}
 use lib.Seq.{append_snoc, length-take-le, take_all, take-append-le, take-suc-set}
-use borrow.Author.Tests.{lt-ltb, le-ltb, eqb-false, eqb-true}
+use borrow.Author.Tests.{lt-ltb, le-ltb, eqb-false}
 use Rattle.lists.proofs.Cases.{cases, order}
 use Rattle.words.specs.Number.{put}
 use Rattle.words.proofs.NumberLaws.{length-put}
-use Rattle.net.specs.Net.{Arc}
-use Rattle.table.specs.Table.{record_bytes, put_arc}
+use Rattle.table.specs.Table.{put_arc}
 use Rattle.road_file.specs.declared.Reader.{Reader}
 use Rattle.road_file.specs.File.{Fed, unfed, feed_byte, feed}
-use Rattle.road_file.specs.Reader.{last_arc, reader_of, fed_by}
+use Rattle.road_file.specs.Reader.{reader_of, fed_by}
 use Rattle.road_file.proofs.FeedLaws.{fed-is}
 use Rattle.road_fill.specs.Filled.{filled}
 use Rattle.road_fill.proofs.FillLaws.{filled_none, byte-rises, fill-next}
 use Rattle.desk_line.specs.Limits.{most_arcs_read}
 use Rattle.desk_feed.specs.declared.Taken.{Taken}
 use Rattle.desk_feed.specs.Road.{from_newline, road_file, Road, sized_next, road_byte, road_from, unread, road_in}
-use Rattle.desk_feed.specs.Taken.{first_bytes, table_bytes, begun_with, kept_by, kept_to, sized_by, stored_by, road_taken, road_stored, taken_by, table_by, State, state, state_byte, state_from, state_of}
+use Rattle.desk_feed.specs.Taken.{first_bytes, table_bytes, kept_by, kept_to, sized_by, stored_by, road_taken, road_stored, taken_by, table_by, State, state_byte, state_from, state_of}
 
 abbrev pub zeros : List ℕ
 zeros = replicate table_bytes 0

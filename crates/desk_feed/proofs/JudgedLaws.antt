@@ -7,8 +7,7 @@ use mathlib.Core.Logic.{◌≢◌, ⊎_elim}
 use Prim.Native.Nat.{ℕ, ◌*◌, ◌≤◌}
 use native.Mathlib.Omega.{arith}
 use lib.Dec.{ltb, eqb}
-use lib.ListN.{length, take, drop, replicate, length-replicate}
-use lib.Seq.{take_at}
+use lib.ListN.{length, drop, length-replicate}
 use borrow.Author.Tests.{ltb-false, eqb-true, eqb-false}
 use Rattle.lists.proofs.Cases.{cases}
 use Rattle.outcome.specs.declared.Told.{Told}
@@ -16,7 +15,7 @@ use Rattle.outcome.specs.Outcome.{found, text, file, plain, beside}
 use Rattle.net.specs.Net.{Arc}
 use Rattle.net.specs.Small.{AllSmall}
 use Rattle.table.specs.Table.{table_of}
-use Rattle.road_file.specs.File.{Fed, unfed, feed, Roads, malformed, roads, ended_of}
+use Rattle.road_file.specs.File.{Fed, Roads, malformed, roads, ended_of}
 use Rattle.road_file.specs.Reader.{reader_of, wrong_by}
 use Rattle.road_file.proofs.EndLaws.{ended-good, ended-wrong}
 use Rattle.road_file.proofs.SmallLaws.{said-small, said-few}
@@ -27,7 +26,7 @@ use Rattle.road_fill.proofs.MadeLaws.{placed_at, made_at}
 use Rattle.desk_line.specs.Limits.{most_nodes_read, most_arcs_read}
 use Rattle.desk_feed.specs.Road.{Road, Judged, refused, taken, above, judged_as, judged, road_file, road_in}
 use Rattle.desk_feed.specs.Taken.{table_bytes, above_by, sized_first, judged_by, State, state_of}
-use Rattle.desk_feed.proofs.HeldLaws.{zeros, in-fed, Held, held}
+use Rattle.desk_feed.proofs.HeldLaws.{zeros, in-fed, held}
 
 -- ---- by the tests
 

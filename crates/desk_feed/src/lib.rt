@@ -1,6 +1,8 @@
 // The desk program's input, fed byte by byte: its first bytes are kept, since the query line is
 // among them, and of the road file only what its reader keeps, and the arcs as records in file
 // order. So the input may be of any length, and come in parts.
+#![tactic(auto)]
+
 ghost use Rattle.std.specs.Prelude.{◌≡◌, ◌&&◌, ◌*◌, ◌≤◌, length};
 ghost use Rattle.road_sort.specs.Sorted.{Placed, sorted_table};
 ghost use Rattle.road_fill.specs.Filled.{cleared};
@@ -21,7 +23,7 @@ pub const TABLE: usize = 65536;
 
 // How many of the first bytes stand; whether the first line has ended; the road file's reader; the
 // number of its `p` line, or 0.
-#[derive(Drop)]
+#[derive(Clone, Copy)]
 pub struct Taken {
     pub first: usize,
     pub started: bool,

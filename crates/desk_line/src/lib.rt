@@ -1,4 +1,6 @@
 // A line of numbers in the desk program's input, read at a place of a text.
+#![tactic(auto)]
+
 ghost use Rattle.std.specs.Prelude.{◌≡◌, ◌≤◌, ◌<◌, length};
 ghost use Rattle.numerals.specs.Read.{read_of};
 ghost use Rattle.desk_line.specs.Line.{separator, line_from};
@@ -16,7 +18,7 @@ const SPACE: u8 = 32;
 const NEWLINE: u8 = 10;
 
 // The place after a line, or that it is malformed.
-#[derive(Drop)]
+#[derive(Clone, Copy)]
 pub enum Next {
     At(usize),
     Malformed,

@@ -1,7 +1,7 @@
 -- The text of the new form prints the lines of the old one, where the old query reached the rounds. Its first line is read as the five numbers that were written, and not
 -- as seven, since a newline follows the fifth. What follows is a written road file behind a comment: it reads as the arcs of the table, within the program's limits. The
 -- table was good, so its arcs stand in order, and ordering them makes the table again. So both texts ask the same query.
-use mathlib.Core.Path.{◌≡◌, refl, sym, ap, ap₂, subst, ◌∙◌}
+use mathlib.Core.Path.{◌≡◌, refl, sym, ap, ap₂, ◌∙◌}
 use mathlib.Core.Bool.{Bool, true, false, not, ◌||◌, cond}
 use mathlib.Core.List.{List, [], ◌∷◌, ◌++◌, append_assoc}
 use mathlib.Core.Logic.{⊎_elim}
@@ -17,20 +17,18 @@ use Rattle.lists.proofs.Cases.{cases}
 use Rattle.net.specs.Net.{Arc}
 use Rattle.numerals.specs.Decimal.{most_number, digits, number, decimal}
 use Rattle.numerals.proofs.DecimalLaws.{number-decimal}
-use Rattle.text_put.specs.Put.{newline}
-use Rattle.table.specs.Table.{records, arcs_of, table_of}
+use Rattle.table.specs.Table.{arcs_of, table_of}
 use Rattle.table.specs.Fault.{table_fault, good}
 use Rattle.table.proofs.TableLaws.{length-table_of, made-no-roads}
 use Rattle.table.proofs.NetLaws.{arcs-length}
 use Rattle.road_line.specs.Line.{is_comment, line_of}
-use Rattle.road_file.specs.File.{Said, Fed, unfed, feed, Roads, malformed, roads, missing, ended_of, roads_in}
-use Rattle.road_order.specs.Ordered.{ordered}
+use Rattle.road_file.specs.File.{Fed, unfed, feed, malformed, roads, missing, ended_of, roads_in}
 use Rattle.road_write.specs.Written.{text_of}
 use Rattle.road_trip.specs.Text.{whole}
 use Rattle.road_trip.proofs.LineLaws.{has-append, decimal-newline}
 use Rattle.road_trip.proofs.Comment.{comment-says-nothing}
 use Rattle.road_trip.proofs.Trip.{text-reads, table-due, table-bytes}
-use Rattle.query.specs.Query.{Input, reaches, tells_due}
+use Rattle.query.specs.Query.{reaches, tells_due}
 use Rattle.query.proofs.DecideLaws.{Passed, passed}
 use Rattle.query.proofs.Promises.{reached}
 use Rattle.desk_line.specs.Limits.{most_nodes_read, most_arcs_read}
@@ -39,7 +37,7 @@ use Rattle.desk_query.specs.Query.{First, query, as_query, unless_old, first_in}
 use Rattle.desk_feed.specs.Road.{from_newline, road_file, Road, Judged, taken, above, judged_as, judged, road_in}
 use Rattle.desk_feed.proofs.HeldLaws.{in-fed}
 use Rattle.desk_output.specs.Line.{numbers_text, route_text}
-use Rattle.desk_text.specs.Desk.{refused_text, end_text, reply_text, asked, file_text, text_for, desk_text}
+use Rattle.desk_text.specs.Desk.{refused_text, reply_text, asked, file_text, text_for, desk_text}
 use Rattle.desk_old_input.specs.Text.{asks, said}
 use Rattle.desk_old_input.proofs.SaidLaws.{said-limits}
 use Rattle.desk_old.specs.Old.{query_numbers, asked_old, old_text_for, old_desk_text}

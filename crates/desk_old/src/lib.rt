@@ -1,4 +1,6 @@
 // The desk program's old form turned into the new one, from text to text.
+#![tactic(auto)]
+
 ghost use Rattle.std.specs.Prelude.{◌≡◌, ◌*◌, ◌≤◌, length, take};
 ghost use Rattle.table.specs.Table.{record_bytes};
 ghost use Rattle.query.specs.Query.{refused_of};

@@ -1,4 +1,6 @@
 // The old form of the desk program's input: from text to numbers and a road table.
+#![tactic(auto)]
+
 ghost use Rattle.std.specs.Prelude.{◌≡◌, ◌+◌, ◌*◌, ◌≤◌, length};
 ghost use Rattle.table.specs.Table.{record_bytes};
 ghost use Rattle.desk_line.specs.Limits.{most_arcs_read};
@@ -25,7 +27,7 @@ fn arc(text: &[u8], at: usize, i: usize, table: &mut [u8]) -> Next
 }
 
 // How the arc lines were read: all and nothing after them, or the first malformed line.
-#[derive(Drop)]
+#[derive(Clone, Copy)]
 pub enum ArcsRead {
     All,
     Bad(u32),
@@ -61,7 +63,7 @@ fn arcs(text: &[u8], at: usize, m: usize, table: &mut [u8]) -> ArcsRead
 
 // The numbers of the first line, and how the text was read: `line` is 0 where it is well-formed,
 // else the first malformed line.
-#[derive(Drop)]
+#[derive(Clone, Copy)]
 pub struct Asked {
     pub line: u32,
     pub nodes: u32,

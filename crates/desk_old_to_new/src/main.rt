@@ -1,5 +1,6 @@
 // The converter: reads a text of the desk program's old form from standard input, and writes one of
 // the new form, or the line of the refusal that it got.
+#![tactic(auto)]
 
 // The first n bytes, to standard output.
 fn show(out: &[u8; desk_old::MOST_TURNED], n: usize) {

@@ -1,4 +1,6 @@
 // The desk program's output: lines of text written one after the other into a lent buffer.
+#![tactic(auto)]
+
 ghost use Rattle.std.specs.Prelude.{◌+◌, ◌*◌, ◌≤◌, length};
 ghost use Rattle.text_put.specs.Put.{Appended};
 ghost use Rattle.desk_output.specs.Line.{numbers_text, route_text, most_line};

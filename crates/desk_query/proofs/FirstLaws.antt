@@ -1,5 +1,5 @@
 -- What the first line is, by how its seven and its five numbers were read; and 77 bytes of a text tell it, since no line of seven numbers is longer.
-use mathlib.Core.Path.{◌≡◌, refl, ap₂, ◌∙◌}
+use mathlib.Core.Path.{◌≡◌, ap₂, ◌∙◌}
 use mathlib.Core.List.{List}
 use mathlib.Core.Option.{Option, none, some}
 use Prim.Native.Nat.{ℕ, ◌≤◌}

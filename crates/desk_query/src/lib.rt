@@ -1,4 +1,6 @@
 // The first line of the desk program's input: the query, unless it is the old form's or malformed.
+#![tactic(auto)]
+
 ghost use Rattle.std.specs.Prelude.{◌≡◌};
 ghost use Rattle.desk_line.specs.Line.{line_from};
 ghost use Rattle.desk_query.specs.Query.{first_in, as_query};

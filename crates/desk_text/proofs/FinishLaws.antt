@@ -1,6 +1,6 @@
 -- Where an input ends. What the first bytes are is what its first line is, so the query's refusal is due, or what its road file gives; and that is the refusal which the
 -- reader tells, or the reply over the table of its arcs in order.
-use mathlib.Core.Path.{◌≡◌, refl, sym, ap, subst, ◌∙◌}
+use mathlib.Core.Path.{◌≡◌, sym, ap, subst, ◌∙◌}
 use mathlib.Core.List.{List, [], ◌∷◌, ◌++◌}
 use mathlib.Core.Logic.{◌≢◌}
 use Prim.Native.Nat.{ℕ, ◌-◌, ◌*◌, ◌≤◌}

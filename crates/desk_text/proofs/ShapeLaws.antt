@@ -34,9 +34,12 @@ module _ (q : Query) (v : Valid q) (apart : q.s ≡ q.t → ⊥) where
 module _ (q : Query) (v : Valid q) (few : length q.net.arcs < no_number) where
   pub answers-short : (k : ℕ) (earlier : List (List ℕ)) (p : List ℕ) → Memᴰ p (answers (rounds q k earlier)) → length p ≤ q.net.nodes - 1
   unfolding rounds_by go_on answers
+  answers-short zero earlier p m = elim m [ ]
   answers-short (suc k) earlier p m = go (ending q earlier) refl (λ w. answers-short k (earlier ++ (w ∷ [])) p) m
     where
       go : (z : Ending) → ending q earlier ≡ z → ((w : List ℕ) → Memᴰ p (answers (rounds q k (earlier ++ (w ∷ [])))) → length p ≤ q.net.nodes - 1)
           → Memᴰ p (answers (go_on z (λ w. rounds q k (earlier ++ (w ∷ []))))) → length p ≤ q.net.nodes - 1
+      go (unanswered n) e below m = elim m [ ]
+      go refused e below m = elim m [ ]
       go (answered w n) e below (Memᴰ.head i) = subst (λ x. length x ≤ q.net.nodes - 1) (sym i) (answered-short q earlier v few w n e)
       go (answered w n) e below (Memᴰ.tail m) = below w m

@@ -1,4 +1,6 @@
 // The desk program's work, from text to text.
+#![tactic(auto)]
+
 pub mod parts;
 pub mod print;
 
@@ -23,7 +25,7 @@ pub const DESK_LABELS: usize = 512;
 pub const DESK_WORDS: usize = 12276;
 
 // What is asked of a road table.
-#[derive(Drop)]
+#[derive(Clone, Copy)]
 pub struct Asked {
     pub nodes: u32,
     pub s: u32,
@@ -117,9 +119,8 @@ pub fn finish(x: Taken, first: &[u8], table: &mut [u8], out: &mut [u8]) -> usize
 {
     let n = x.first;
     let q = desk_query::read(&first[0..n]);
-    let told = q.told;
-    if told.outcome != outcome::FOUND {
-        return print::refused(out, told);
+    if q.told.outcome != outcome::FOUND {
+        return print::refused(out, q.told);
     }
     finish_road(x, q, table, out)
 }

@@ -1,5 +1,7 @@
 // The first routes from s to all nodes, and from all nodes to the goal, by the distances: no two
 // chains are compared.
+#![tactic(auto)]
+
 pub mod pick;
 pub mod walk;
 

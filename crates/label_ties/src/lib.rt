@@ -10,6 +10,8 @@
 // Where the far ancestor does not pass the walk's end, the walk goes there: so it costs a logarithm
 // of the number of arcs. What is passed over does not count, since far ancestors that differ stand
 // for chains that differ.
+#![tactic(auto)]
+
 ghost use Rattle.std.specs.Prelude.{◌≡◌, [], ◌∷◌, ◌++◌, ◌⊎◌, ◌≤◌, ◌<◌, length, take, get_or};
 ghost use Rattle.lists.specs.Tests.{lex};
 ghost use Rattle.net.specs.Route.{numbers_first};

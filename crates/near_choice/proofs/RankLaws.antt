@@ -3,7 +3,7 @@
 use mathlib.Core.Path.{◌≡◌, refl, sym, ap, ap₂, subst, ◌∙◌}
 use mathlib.Core.List.{List, [], ◌∷◌, ◌++◌}
 use mathlib.Core.Bool.{true, false}
-use Prim.Native.Nat.{ℕ, suc, ◌+◌, ◌-◌, ◌*◌, ◌≤◌, ◌<◌}
+use Prim.Native.Nat.{ℕ, suc, ◌+◌, ◌*◌, ◌≤◌, ◌<◌}
 use native.Mathlib.Omega.{arith}
 use lib.ListN.{length, get_or, drop, drop_of_length-le}
 use lib.Seq.{drop-cons}
@@ -17,7 +17,7 @@ use Rattle.search_ask.specs.Earlier.{route_in, earlier_in}
 use Rattle.search_ask.proofs.EarlierLaws.{slot-end}
 use Rattle.remaining.specs.Standing.{Roomy}
 use Rattle.route_list.specs.Listed.{Words}
-use Rattle.heap.proofs.SlotLaws.{length-slot}
+use Rattle.route_list.proofs.PlaceLaws.{length-slot}
 use Rattle.route_apart.specs.Marks.{Marked, Unmarked, put_marks, apart_by}
 use Rattle.route_apart.proofs.PutLaws.{put_marks-long, marked_by, unmarked-by}
 use Rattle.route_apart.proofs.ApartLaws.{route-most, members-below, apart_by_lem, marked-most}

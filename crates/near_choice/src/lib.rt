@@ -1,5 +1,7 @@
 // "choose the k whose least pairwise dissimilarity is greatest": a search over the ranks that goes
 // deeper only where what is chosen may still become better than the best so far.
+#![tactic(auto)]
+
 pub mod least;
 
 ghost use Rattle.std.specs.Prelude.{◌≡◌, true, ◌≤◌, length};
@@ -13,7 +15,7 @@ ghost use Rattle.near_choice.specs.Choosing.{Seeks, Sought};
 use variety::Fraction;
 
 // The best choice so far, whose ranks stand in a buffer: whether there is one, and how varied.
-#[derive(Drop)]
+#[derive(Clone, Copy)]
 pub struct Best {
     pub found: bool,
     pub least: Fraction,

@@ -1,26 +1,24 @@
--- From an empty room: the distances to go, the start marked, and the empty path; what is found from there is, put in order, the list (`near-found`). No route is found twice, so as
--- many are found as are listed.
+-- From an empty room: the distances to go, the start marked, and the empty path; what is found from there is the list (`near-found`).
 use mathlib.Core.Path.{◌≡◌, refl, sym, ap, subst, ◌∙◌}
-use mathlib.Core.Logic.{inl, inr, ⊎_elim}
+use mathlib.Core.Logic.{◌≢◌, ◌⊎◌, inl, inr, ⊎_elim}
 use mathlib.Core.Option.{some}
-use mathlib.Core.List.{List, [], ◌++◌}
+use mathlib.Core.List.Memᴰ
+use mathlib.Core.List.{List, [], Memᴰ}
 use mathlib.Core.Bool.{false, not, ◌||◌}
 use Prim.Native.Nat.{ℕ, zero, suc, pred, ◌+◌, ◌-◌, ◌*◌, ◌^◌, ◌≤◌, ◌<◌}
 use native.Mathlib.Omega.{arith}
+use native.Mathlib.Decide.{ℕ_discrete}
 use native.Mathlib.Nat.{mul-le-mul_left}
 use lib.Dec.{eqb}
-use lib.ListN.{length, get_or, drop, replicate, length-replicate}
+use lib.ListN.{length, get_or, replicate, length-replicate}
 use borrow.Author.Tests.{eq-eqb, ne_eqb}
 use Rattle.lists.specs.Tests.{has, up_from}
-use Rattle.words.specs.Number.{num, put}
+use Rattle.words.specs.Number.{num}
 use Rattle.words.proofs.NumberLaws.{length-put}
 use Rattle.net.specs.Net.{Net}
-use Rattle.net.specs.Route.{visited, end_of, length_of, in_order}
-use Rattle.net.specs.Limits.{most_nodes}
+use Rattle.net.specs.Route.{visited, end_of, length_of}
 use Rattle.net.proofs.Chains.{partial-nil}
 use Rattle.table.specs.Table.{arcs_of, net_of}
-use Rattle.table.specs.Fault.{table_fault, good}
-use Rattle.table.proofs.FaultLaws.{good-size}
 use Rattle.table.proofs.NetLaws.{table-sound}
 use Rattle.search_ask.specs.Earlier.{earlier_in}
 use Rattle.working_room.specs.Field.{room_bytes, long_at, put_word}
@@ -28,17 +26,13 @@ use Rattle.working_room.proofs.RoomLaws.{word-put, word-put-node, within-word_at
 use Rattle.remaining.specs.Standing.{far, field, go_in, Roomy, Settled}
 use Rattle.remaining.proofs.GoingLaws.{go-distance, go-none}
 use Rattle.remaining.proofs.StandingLaws.{go-below, shorter-than-far}
-use Rattle.route_list.specs.Listed.{Listed, Once}
-use Rattle.route_list.proofs.SlotLaws.{either}
-use Rattle.route_list.proofs.ListLaws.{once-length}
-use Rattle.route_order.specs.Order.{Ordered}
+use Rattle.route_list.specs.Listed.{Listed}
 use Rattle.variety.specs.Variety.{near}
-use Rattle.variety.specs.Deeper.{deeper}
+use Rattle.variety.specs.Deeper.{deeper, insert_all}
 use Rattle.variety.proofs.Listing.{near-found, near_none}
 use Rattle.near_routes.specs.declared.Range.{Range}
 use Rattle.near_routes.specs.Tries.{goes_on}
 use Rattle.near_routes.specs.Deep.{seen_field, seen_at, trip_of, Deep, Went}
-use Rattle.near_routes.proofs.TryLaws.{deeper-once}
 use Rattle.near_routes.proofs.DeepLaws.{mark-go}
 use Rattle.near_list.specs.Near.{Asks, Lists}
 
@@ -52,48 +46,20 @@ unfolding num
 num-zeros zero n at = refl
 num-zeros (suc k) n at = omega (arith, num-zeros k n at, ap (λ z. z * 2 ^ (8 * k)) (get_or-zeros n (at + k)))
 
+either : (v u : ℕ) → (v ≡ u) ⊎ (v ≢ u)
+either v u = go (ℕ_discrete v u)
+  where
+    go : Dec (v ≡ u) → (v ≡ u) ⊎ (v ≢ u)
+    go (yes e) = inl e
+    go (no e) = inr e
+
 none-listed : (t : List ℕ) (w : ℕ) (l : List ℕ) → Listed t w 0 l
-none-listed t w l = record { slots = omega arith; words = λ i h. absurd (omega arith) }
+unfolding earlier_in up_from
+none-listed t w l = record { slots = omega arith; words = λ i h. absurd (omega arith); in_order = tt }
 
 none-earlier : (w : ℕ) (l : List ℕ) → earlier_in w 0 l ≡ []
 unfolding earlier_in up_from
 none-earlier w l = refl
-
--- ---- put in order
-
--- Routes of which none is twice and which in order are rs are listed.
-pub record Gathers (t : List ℕ) (w slots : ℕ) (rs : List (List ℕ)) (l m : List ℕ) (r : ℕ) : Type 0 where
-  pub routes : List (List ℕ)
-  pub once : Once routes
-  pub in_order_lem : in_order (length_of (arcs_of t)) routes ≡ rs
-  pub lists : Lists t w slots routes l m r
-
-module _ (t : List ℕ) (w slots : ℕ) (rs : List (List ℕ)) (l m : List ℕ) (r : ℕ) (g : Gathers t w slots rs l m r) where
-  pub over : slots < r → Lists t w slots rs l m r
-  over h =
-      ⊎_elim (λ o. absurd (omega (arith, o.0)))
-      (λ o. inr (o.0, omega (arith, o.1, once-length (length_of (arcs_of t)) g.routes g.once, ap length g.in_order_lem)))
-      g.lists
-
-  within : r ≤ slots → Listed t w r m × (earlier_in w r m ≡ g.routes) × (drop (r * w) m ≡ drop (r * w) l)
-  within h = ⊎_elim (λ o. (o.1, o.2, o.3)) (λ o. absurd (omega (arith, o.0))) g.lists
-
-module _ (t : List ℕ) (nodes s goal c d : ℕ) (path room : List ℕ) (a : Asks t nodes s goal c d path room) (slots : ℕ) (rs : List (List ℕ)) (l m : List ℕ) (r : ℕ)
-    (g : Gathers t (nodes - 1) slots rs l m r) (h : r ≤ slots) (w : ℕ) (is-w : w ≡ nodes - 1) where
-  abbrev there : Listed t (nodes - 1) r m × (earlier_in (nodes - 1) r m ≡ g.routes) × (drop (r * (nodes - 1)) m ≡ drop (r * (nodes - 1)) l)
-  there = within t (nodes - 1) slots rs l m r g h
-
-  pub sort-asks : (table_fault nodes t ≡ good) × Listed t w r m × (w ≤ most_nodes) × Once (earlier_in w r m)
-  sort-asks =
-      subst (λ k. (table_fault nodes t ≡ good) × Listed t k r m × (k ≤ most_nodes) × Once (earlier_in k r m)) (sym is-w)
-      (a.fine, there.0, omega (arith, (good-size nodes t a.fine).1), subst Once (sym there.1) g.once)
-
-  pub sorted : (k : List ℕ) → Ordered t w r m k → Lists t (nodes - 1) slots rs l k r
-  sorted k ordered =
-      let o = subst (λ v. Ordered t v r m k) is-w ordered in
-      inl (h, o.listed, o.is ∙ ap (in_order (length_of (arcs_of t))) there.1 ∙ g.in_order_lem, o.behind ∙ there.2)
-
--- ---- what is found
 
 module _ (t closed : List ℕ) (nodes s goal c d : ℕ) (path room : List ℕ) (a : Asks t nodes s goal c d path room) (b e : List ℕ) (is_b : b ≡ replicate (length room) 0)
     (st : Settled (net_of nodes t closed) goal b e) where
@@ -125,8 +91,8 @@ module _ (t closed : List ℕ) (nodes s goal c d : ℕ) (path room : List ℕ) (
   unmarked : (v : ℕ) → seen_at e v ≡ 0
   unmarked v = within-word_at st.within seen_field v refl refl ∙ ap (λ z. seen_at z v) is_b ∙ num-zeros 4 (length room) (v * room_bytes + seen_field)
 
-  two-nodes : 1 ≤ nodes - 1
-  two-nodes = omega (arith, a.s-below, a.goal-below, a.apart)
+  pub two-nodes : 1 ≤ length path
+  two-nodes = omega (arith, a.path-long, a.s-below, a.goal-below, a.apart)
 
   module _ (slots : ℕ) (l f : List ℕ) (shortest : ℕ) (is_f : f ≡ put_word seen_field e s 1) (is-shortest : shortest ≡ long_at field e s) (Near-by : shortest < far) where
     abbrev y : Range
@@ -164,33 +130,27 @@ module _ (t closed : List ℕ) (nodes s goal c d : ℕ) (path room : List ℕ) (
           listed = none-listed t (nodes - 1) l;
           few = omega arith;
           slots = room_for;
-          slots-few = omega (arith, mul-le-mul_left slots two-nodes);
+          slots-few = omega (arith, mul-le-mul_left slots two-nodes, ap (λ z. slots * z) a.path-long);
+          fresh = λ r k. absurd (Memᴰ.not-nil (subst (Memᴰ r) (none-earlier (nodes - 1) l) k));
         }
 
-    in_order_lem : in_order (length_of (arcs_of t)) (goes_on (trip_of y t closed f) (nodes - 1 - 0) []) ≡ near (net_of nodes t closed) s goal c d
-    in_order_lem =
+    rs-is : insert_all (arcs_of t) (earlier_in (nodes - 1) 0 l) (goes_on (trip_of y t closed f) (nodes - 1 - 0) []) ≡ near (net_of nodes t closed) s goal c d
+    rs-is =
         let z : nodes - 1 - 0 ≡ pred nodes = omega arith in
-        ap (in_order (length_of (arcs_of t)))
+        ap (λ k. insert_all (arcs_of t) k (goes_on (trip_of y t closed f) (nodes - 1 - 0) [])) (none-earlier (nodes - 1) l)
+        ∙ ap (insert_all (arcs_of t) [])
         (ap {A = ℕ → ℕ} (λ D. deeper (net_of nodes t closed) s goal D d ((d + c) * shortest) (nodes - 1 - 0) []) same-go
         ∙ ap (λ k. deeper (net_of nodes t closed) s goal (go_in nodes e) d ((d + c) * shortest) k []) z)
         ∙ near-found (net_of nodes t closed) (table-sound nodes t a.fine closed) s goal a.s-below c d shortest
         (go-distance (net_of nodes t closed) (table-sound nodes t a.fine closed) s goal far a.s-below (go_in nodes e) st.going st.to-go (omega (arith, start-go)) ∙ ap some (start-go ∙ sym is-shortest))
         (go_in nodes e) st.to-go
 
-    pub gathers : (m q g : List ℕ) (r : ℕ) → Went (record { nodes = nodes; start = s; goal = goal; d = d; most = (d + c) * shortest; slots = slots }) t closed l path f 0 0 m q g r
-        → Gathers t (nodes - 1) slots (near (net_of nodes t closed) s goal c d) l m r
+    pub lists : (m q g : List ℕ) (r : ℕ) → Went (record { nodes = nodes; start = s; goal = goal; d = d; most = (d + c) * shortest; slots = slots }) t closed l path f 0 0 m q g r
+        → Lists t (nodes - 1) slots (near (net_of nodes t closed) s goal c d) l m r
         × (length m ≡ length l) × (length q ≡ length path) × (length g ≡ length room)
-    gathers m q g r w = (
-      record {
-        routes = goes_on (trip_of y t closed f) (nodes - 1 - 0) [];
-        once = deeper-once (trip_of y t closed f) (nodes - 1 - 0) [];
-        in_order_lem = in_order_lem;
-        lists = ⊎_elim (λ o. inl (o.0, o.1, o.2 ∙ front, o.3)) (λ o. inr (o.0, omega (arith, o.1, ap length front))) w.found;
-      },
+    lists m q g r w = (
+      ⊎_elim (λ o. inl (o.0, o.1, o.2 ∙ rs-is, o.3)) (λ o. inr (o.0, omega (arith, o.1, ap length rs-is))) w.found,
       w.list-long,
       w.path-long,
       w.room.long ∙ ap length is_f ∙ length-put 4 e (s * room_bytes + seen_field) 1 ∙ room-long,
     )
-      where
-        front : earlier_in (nodes - 1) 0 l ++ goes_on (trip_of y t closed f) (nodes - 1 - 0) [] ≡ goes_on (trip_of y t closed f) (nodes - 1 - 0) []
-        front = ap (λ k. k ++ goes_on (trip_of y t closed f) (nodes - 1 - 0) []) (none-earlier (nodes - 1) l)

@@ -1,10 +1,10 @@
 -- The list in its slots.
 use Rattle.std.specs.Prelude.{◌≡◌, ◌≢◌, ◌⊎◌, List, ℕ, ◌+◌, ◌-◌, ◌*◌, ◌≤◌, ◌<◌, length, drop}
-use Rattle.net.specs.Limits.{most_d}
 use Rattle.table.specs.Fault.{table_fault, good}
 use Rattle.search_ask.specs.Earlier.{earlier_in}
 use Rattle.remaining.specs.Standing.{Roomy}
 use Rattle.route_list.specs.Listed.{Listed}
+use Rattle.net.specs.Limits.{most_d}
 
 -- What the listing asks.
 pub record Asks (t : List ℕ) (nodes s goal c d : ℕ) (path room : List ℕ) : Type 0 where

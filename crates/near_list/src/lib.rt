@@ -1,5 +1,7 @@
 // The list of the near-shortest routes: every simple route whose length times d is at most d + c
 // times the shortest.
+#![tactic(auto)]
+
 ghost use Rattle.std.specs.Prelude.{◌≡◌, ◌-◌, ◌*◌, ◌≤◌, length};
 ghost use Rattle.table.specs.Table.{net_of};
 ghost use Rattle.table.specs.Fault.{table_fault, good};
@@ -9,8 +11,8 @@ ghost use Rattle.near_list.specs.Near.{Asks, Lists};
 
 use near_routes::Range;
 
-// Lists them in order in at most `slots` slots; `path` holds one of them while it is made, and the
-// room is scratch. How many there are, or one more than the slots.
+// Lists them in at most `slots` slots; `path` holds one of them while it is made, and the room is
+// scratch. How many there are, or one more than the slots.
 pub fn list(
     table: &[u8],
     closed: &[u8],
@@ -49,11 +51,5 @@ pub fn list(
         most: most,
         slots: slots,
     };
-    let n = near_routes::deeper(table, closed, x, list, path, room, 0, start, 0, 0);
-    if slots < n {
-        return n;
-    }
-    let w = path.len();
-    route_order::sort(table, nodes, list, w, n);
-    n
+    near_routes::deeper(table, closed, x, list, path, room, 0, start, 0, 0)
 }

@@ -3,7 +3,7 @@ use mathlib.Core.Path.{◌≡◌, refl, sym, ap, ap₂, subst, ◌∙◌}
 use mathlib.Core.Logic.{⊎_elim}
 use mathlib.Core.Option.{Option, none, some}
 use mathlib.Core.List.Memᴰ
-use mathlib.Core.List.{List, [], ◌∷◌, ◌++◌, map, Memᴰ}
+use mathlib.Core.List.{List, [], ◌∷◌, map, Memᴰ}
 use Prim.Native.Nat.{ℕ, zero, suc, ◌+◌, ◌-◌, ◌*◌, ◌≤◌, ◌<◌}
 use native.Mathlib.Omega.{arith}
 use native.Mathlib.Nat.{mul-le-mul_right}
@@ -18,7 +18,6 @@ use Rattle.net.specs.Limits.{most_routes}
 use Rattle.table.specs.Table.{arcs_of}
 use Rattle.search_ask.specs.Earlier.{route_in, earlier_in}
 use Rattle.search_ask.proofs.EarlierLaws.{length-earlier_in}
-use Rattle.variety.specs.Choice.{choices_of}
 use Rattle.variety.specs.Variety.{no_route, picked, chosen}
 use Rattle.variety.proofs.Best.{Of, done, take, pass, choices-e, chosen-best}
 use Rattle.near_choice.specs.Choosing.{Routes, Below}

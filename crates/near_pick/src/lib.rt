@@ -1,4 +1,6 @@
 // The chosen in their slots.
+#![tactic(auto)]
+
 ghost use Rattle.std.specs.Prelude.{◌≡◌, ◌+◌, ◌*◌, ◌≤◌, length};
 ghost use Rattle.words.specs.Part.{patch, slot};
 ghost use Rattle.net.specs.Limits.{most_routes};

@@ -2,7 +2,7 @@
 -- there, and by the arcs that are left, makes the whole (`turn_more`); and a list once longer than its slots stays so (`turn-over`).
 use mathlib.Core.Path.{◌≡◌, refl, sym, ap, ap₂, subst, fun_ext, ◌∙◌}
 use mathlib.Core.Logic.{◌≢◌, ◌⊎◌, inl, inr, ⊎_elim}
-use mathlib.Core.List.{List, [], ◌∷◌, ◌++◌, append-nil, append_assoc, Memᴰ}
+use mathlib.Core.List.{List, [], ◌∷◌, ◌++◌, Memᴰ}
 use mathlib.Core.Bool.{Bool, true, false, not, ◌&&◌, ◌||◌, cond}
 use Prim.Native.Nat.{ℕ, zero, suc, ◌+◌, ◌-◌, ◌*◌, ◌≤◌, ◌<◌}
 use native.Mathlib.Omega.{arith}
@@ -13,12 +13,13 @@ use lib.ListN.{length, get_or, set, take, drop, length-append, length-set}
 use lib.Seq.{length-take-le, take-suc-set, take-set-le, take-take, drop-drop}
 use borrow.Author.Tests.{lt-ltb, eq-eqb, ne_eqb, eqb-true}
 use Rattle.lists.specs.Tests.{has}
+use Rattle.lists.proofs.Cases.{cases}
 use Rattle.lists.proofs.TestLaws.{and_l, and_r}
 use Rattle.words.proofs.NumberLaws.{length-put}
 use Rattle.net.specs.Net.{arc}
-use Rattle.net.specs.Route.{visited, end_of, leaves, partial, length_of}
-use Rattle.net.specs.Limits.{most_arcs, most_d}
-use Rattle.net.proofs.Order.{length_of-append}
+use Rattle.net.specs.Route.{visited, end_of, leaves, partial, length_of, before, place, insert}
+use Rattle.net.specs.Limits.{most_nodes}
+use Rattle.net.proofs.Order.{length_of-append, before-total}
 use Rattle.net.proofs.Chains.{leaves-e, partial-chain, partial-more, end_of-more, visited-append}
 use Rattle.net.proofs.Listing.{partial-short, end_below}
 use Rattle.distances.proofs.Walks.{open-arcs}
@@ -34,13 +35,14 @@ use Rattle.working_room.specs.Field.{room_bytes, long_at, put_word}
 use Rattle.working_room.proofs.RoomLaws.{word-put, word-put-node, within_word, within-long_at}
 use Rattle.remaining.specs.Standing.{far, field, go_in, Roomy}
 use Rattle.remaining.proofs.StandingLaws.{go-below, shorter-than-far}
-use Rattle.route_list.specs.Listed.{Fits, Listed, Added}
-use Rattle.route_list.proofs.SlotLaws.{either}
-use Rattle.variety.specs.Deeper.{may_arrive}
+use Rattle.route_list.specs.Listed.{Fits, Listed, Placed}
+use Rattle.net.specs.Limits.{most_d}
+use Rattle.variety.specs.Deeper.{may_arrive, insert_all}
+use Rattle.variety.proofs.Places.{insert_all-grows}
 use Rattle.near_routes.specs.declared.Range.{Range}
-use Rattle.near_routes.specs.Tries.{Trip, tries, goes_on, found_by, left}
+use Rattle.near_routes.specs.Tries.{Trip, tries, goes_on, found_by, left, Fresh, FreshFrom}
 use Rattle.near_routes.specs.Deep.{seen_field, seen_at, wide, trip_of, goes_by, Deep, Kept, Went, Turning}
-use Rattle.near_routes.proofs.TryLaws.{deeper-there, deeper-run, tries-next, found-tried, found_none, left_step, left-done}
+use Rattle.near_routes.proofs.TryLaws.{deeper-there, deeper-run, tries-next, found-tried, found_none, left_step, left-done, insert_all-append, insert_all-one, insert_all-none, fresh_start, fresh-next, fresh-later, fresh-more, fresh-new}
 
 -- ---- tests
 
@@ -73,6 +75,9 @@ unfolding has
 has_more v y [] = or-false (eqb v y)
 has_more v y (z ∷ xs) = ap (λ b. eqb v z || b) (has_more v y xs) ∙ or_assoc (eqb v z) (has v xs) (eqb v y)
 
+either : (v u : ℕ) → (v ≡ u) ⊎ (v ≢ u)
+either v u = ⊎_elim (λ e. inl (eqb-true v u e)) (λ e. inr (λ z. let y : ◌≡◌ {A = ℕ} 0 1 = (let k : true ≡ false = sym (eq-eqb v u z) ∙ e in cc) in omega arith)) (cases (eqb v u))
+
 -- ---- the room
 
 pub kept_same : (l : List ℕ) → Kept l l
@@ -101,7 +106,19 @@ kept-turn b c c₂ u room k is_zero k₂ =
           (either v u);
     }
 
--- ---- the list
+-- ---- a route more
+
+insert-longer : (f : List ℕ → ℕ) (p : List ℕ) (xs : List (List ℕ)) → (Memᴰ p xs → ⊥) → length (insert f p xs) ≡ suc (length xs)
+unfolding insert
+insert-longer f p [] new = refl
+insert-longer f p (q ∷ xs) new =
+    go (before f p q) refl (before f q p) refl (insert-longer f p xs (λ m. new (Memᴰ.tail m)))
+  where
+    go : (b : Bool) → before f p q ≡ b → (c : Bool) → before f q p ≡ c → length (insert f p xs) ≡ suc (length xs) → length (place b c p q xs (insert f p xs)) ≡ suc (suc (length xs))
+    go true e c g i = refl
+    go false e true g i = ap suc i
+    go false e false g i =
+        absurd (⊎_elim (λ z. subst T e z) (λ z. ⊎_elim (λ y. subst T g y) (λ y. new (Memᴰ.head y)) z) (before-total f p q))
 
 drop-on : {A : Type 0} (l m : List A) (i j : ℕ) → i ≤ j → drop i m ≡ drop i l → drop j m ≡ drop j l
 drop-on l m i j h e =
@@ -138,11 +155,14 @@ module _ (x : Range) (t closed l p b : List ℕ) (depth v size n : ℕ) (d : Dee
   pub path-fits : Fits t (wide x) (take depth p)
   path-fits = record { few = omega (arith, path-depth, d.deep); arcs = path-arcs }
 
+  pub path-new : Memᴰ (take depth p) (earlier_in (wide x) n l) → ⊥
+  path-new = fresh-new (take depth p) (earlier_in (wide x) n l) d.fresh
+
   -- ---- at the goal
 
   module _ (e : v ≡ x.goal) where
-    there : earlier_in (wide x) n l ++ goes_on (trip_of x t closed b) (wide x - depth) (take depth p) ≡ earlier_in (wide x) n l ++ (take depth p ∷ [])
-    there = ap (λ y. earlier_in (wide x) n l ++ y) (deeper-there (trip_of x t closed b) (wide x - depth) (take depth p) (d.ends ∙ e))
+    there : insert_all (arcs_of t) (earlier_in (wide x) n l) (goes_on (trip_of x t closed b) (wide x - depth) (take depth p)) ≡ insert (length_of (arcs_of t)) (take depth p) (earlier_in (wide x) n l)
+    there = ap (insert_all (arcs_of t) (earlier_in (wide x) n l)) (deeper-there (trip_of x t closed b) (wide x - depth) (take depth p) (d.ends ∙ e)) ∙ insert_all-one (arcs_of t) (take depth p) (earlier_in (wide x) n l)
 
     pub arrived-full : x.slots ≤ n → (r : ℕ) → r ≡ x.slots + 1 → Went x t closed l p b depth n l p b r
     arrived-full h r z =
@@ -151,11 +171,11 @@ module _ (x : Range) (t closed l p b : List ℕ) (depth v size n : ℕ) (d : Dee
           path-long = refl;
           path = refl;
           room = kept_same b;
-          found = inr (z, omega (arith, ap length there, length-append (earlier_in (wide x) n l) (take depth p ∷ []), length-earlier_in (wide x) n l));
+          found = inr (z, omega (arith, ap length there, insert-longer (length_of (arcs_of t)) (take depth p) (earlier_in (wide x) n l) path-new, length-earlier_in (wide x) n l));
         }
 
-    pub arrived-added : (m : List ℕ) (r : ℕ) → n < x.slots → r ≡ n + 1 → Added t (wide x) n l (take depth p) m → Went x t closed l p b depth n m p b r
-    arrived-added m r h z w =
+    pub arrived-placed : (m : List ℕ) (r : ℕ) → n < x.slots → r ≡ n + 1 → Placed t (wide x) n l (take depth p) m → Went x t closed l p b depth n m p b r
+    arrived-placed m r h z w =
         record {
           list-long = w.long;
           path-long = refl;
@@ -176,10 +196,11 @@ module _ (x : Range) (t closed l p b : List ℕ) (depth v size n : ℕ) (d : Dee
           room = kept_same b;
           few = d.few;
           listed = d.listed;
-          whole = ap (λ y. earlier_in (wide x) n l ++ y) (sym
+          whole = ap (insert_all (arcs_of t) (earlier_in (wide x) n l)) (sym
               (deeper-run (trip_of x t closed b) (take depth p) (run_start t v) (run_start t (v + 1)) (wide x - depth) (table-sound x.nodes t d.fine closed) d.s-below d.is-partial
               (omega (arith, path-depth)) (λ z. ne (sym d.ends ∙ z)) (run-mono t v) (omega (arith, run-le t (v + 1), arcs-length t)) run));
           behind = refl;
+          fresh = fresh_start (take depth p) (earlier_in (wide x) n l) (run_start t v) d.fresh;
         }
       where
         run : (a : ℕ) → T (leaves (net_of x.nodes t closed) (end_of (arcs_of t) x.start (take depth p)) a) → (run_start t v ≤ a) × (a < run_start t (v + 1))
@@ -196,7 +217,7 @@ module _ (x : Range) (t closed l p b : List ℕ) (depth v size n : ℕ) (d : Dee
           path-long = g.path-long;
           path = g.path;
           room = g.room;
-          found = inl (g.few, g.listed, sym (ap (λ y. earlier_in (wide x) r m ++ y) (left-done (trip_of x t closed b) (wide x - depth - 1) (take depth p) a e h) ∙ append-nil (earlier_in (wide x) r m)) ∙ g.whole, g.behind);
+          found = inl (g.few, g.listed, sym (ap (insert_all (arcs_of t) (earlier_in (wide x) r m)) (left-done (trip_of x t closed b) (wide x - depth - 1) (take depth p) a e h) ∙ insert_all-none (arcs_of t) (earlier_in (wide x) r m)) ∙ g.whole, g.behind);
         }
 
     module _ (in-run : a < e) where
@@ -212,9 +233,10 @@ module _ (x : Range) (t closed l p b : List ℕ) (depth v size n : ℕ) (d : Dee
             room = g.room;
             few = g.few;
             listed = g.listed;
-            whole = ap (λ y. earlier_in (wide x) r m ++ y)
+            whole = ap (insert_all (arcs_of t) (earlier_in (wide x) r m))
                 (sym (step ∙ ap (λ y. y ++ left (trip_of x t closed b) (wide x - depth - 1) (take depth p) (a + 1) e) (found_none (trip_of x t closed b) (wide x - depth - 1) (take depth p) a z))) ∙ g.whole;
             behind = g.behind;
+            fresh = fresh-later (take depth p) (earlier_in (wide x) r m) a g.fresh;
           }
 
       module _ (is-e : e ≡ run_start t (v + 1)) (from_start : run_start t v ≤ a) where
@@ -309,24 +331,25 @@ module _ (x : Range) (t closed l p b : List ℕ) (depth v size n : ℕ) (d : Dee
                 few = g.few;
                 slots = omega (arith, d.slots, g.list-long);
                 slots-few = d.slots-few;
+                fresh = subst (λ z. Fresh z (earlier_in (wide x) r m)) (sym path-on) (fresh-next (take depth p) (earlier_in (wide x) r m) a g.fresh);
               }
 
           -- what the call has found is what arc a finds
-          by-arc : earlier_in (wide x) r m ++ goes_on (trip_of x t closed (put_word seen_field c (to_at t a) 1)) (wide x - (depth + 1)) (take (depth + 1) (set q depth a))
-              ≡ earlier_in (wide x) r m ++ goes_on (trip_of x t closed b) (wide x - depth - 1) (take depth p ++ (a ∷ []))
+          by-arc : insert_all (arcs_of t) (earlier_in (wide x) r m) (goes_on (trip_of x t closed (put_word seen_field c (to_at t a) 1)) (wide x - (depth + 1)) (take (depth + 1) (set q depth a)))
+              ≡ insert_all (arcs_of t) (earlier_in (wide x) r m) (goes_on (trip_of x t closed b) (wide x - depth - 1) (take depth p ++ (a ∷ [])))
           by-arc =
               let z : wide x - (depth + 1) ≡ wide x - depth - 1 = omega arith in
-              ap (λ y. earlier_in (wide x) r m ++ y)
+              ap (insert_all (arcs_of t) (earlier_in (wide x) r m))
               (ap {A = ℕ → ℕ} (λ f. goes_on (record { net = net_of x.nodes t closed; s = x.start; t = x.goal; D = f; d = x.d; most = x.most }) (wide x - (depth + 1)) (take (depth + 1) (set q depth a))) same-go
               ∙ ap₂ (λ k y. goes_on (trip_of x t closed b) k y) z path-on)
 
           -- and with what is left it makes the whole
-          on-whole : (earlier_in (wide x) r m ++ goes_on (trip_of x t closed b) (wide x - depth - 1) (take depth p ++ (a ∷ []))) ++ left (trip_of x t closed b) (wide x - depth - 1) (take depth p) (a + 1) e
-              ≡ earlier_in (wide x) n l ++ goes_on (trip_of x t closed b) (wide x - depth) (take depth p)
+          on-whole : insert_all (arcs_of t) (insert_all (arcs_of t) (earlier_in (wide x) r m) (goes_on (trip_of x t closed b) (wide x - depth - 1) (take depth p ++ (a ∷ [])))) (left (trip_of x t closed b) (wide x - depth - 1) (take depth p) (a + 1) e)
+              ≡ insert_all (arcs_of t) (earlier_in (wide x) n l) (goes_on (trip_of x t closed b) (wide x - depth) (take depth p))
           on-whole =
-              append_assoc (earlier_in (wide x) r m) (goes_on (trip_of x t closed b) (wide x - depth - 1) (take depth p ++ (a ∷ []))) (left (trip_of x t closed b) (wide x - depth - 1) (take depth p) (a + 1) e)
-              ∙ ap (λ y. earlier_in (wide x) r m ++ (y ++ left (trip_of x t closed b) (wide x - depth - 1) (take depth p) (a + 1) e)) (sym (found-tried (trip_of x t closed b) (wide x - depth - 1) (take depth p) a on))
-              ∙ ap (λ y. earlier_in (wide x) r m ++ y) (sym step) ∙ g.whole
+              sym (insert_all-append (arcs_of t) (goes_on (trip_of x t closed b) (wide x - depth - 1) (take depth p ++ (a ∷ []))) (left (trip_of x t closed b) (wide x - depth - 1) (take depth p) (a + 1) e) (earlier_in (wide x) r m))
+              ∙ ap (λ y. insert_all (arcs_of t) (earlier_in (wide x) r m) (y ++ left (trip_of x t closed b) (wide x - depth - 1) (take depth p) (a + 1) e)) (sym (found-tried (trip_of x t closed b) (wide x - depth - 1) (take depth p) a on))
+              ∙ ap (insert_all (arcs_of t) (earlier_in (wide x) r m)) (sym step) ∙ g.whole
 
           module _ (m₂ q₂ c₂ : List ℕ) (r₂ : ℕ) (w : Went x t closed m (set q depth a) (put_word seen_field c (to_at t a) 1) (depth + 1) r m₂ q₂ c₂ r₂) where
             path-back : take depth q₂ ≡ take depth p
@@ -343,7 +366,7 @@ module _ (x : Range) (t closed l p b : List ℕ) (depth v size n : ℕ) (d : Dee
             pub turn_more : r₂ ≤ x.slots → Turning x t closed l p b depth n (a + 1) e m₂ q₂ (put_word seen_field c₂ (to_at t a) 0) r₂
             turn_more h = ⊎_elim (λ o. go o.1 (o.2 ∙ by-arc) o.3) (λ o. absurd (omega (arith, o.0))) w.found
               where
-                go : Listed t (wide x) r₂ m₂ → earlier_in (wide x) r₂ m₂ ≡ earlier_in (wide x) r m ++ goes_on (trip_of x t closed b) (wide x - depth - 1) (take depth p ++ (a ∷ []))
+                go : Listed t (wide x) r₂ m₂ → earlier_in (wide x) r₂ m₂ ≡ insert_all (arcs_of t) (earlier_in (wide x) r m) (goes_on (trip_of x t closed b) (wide x - depth - 1) (take depth p ++ (a ∷ [])))
                     → drop (r₂ * wide x) m₂ ≡ drop (r₂ * wide x) m → Turning x t closed l p b depth n (a + 1) e m₂ q₂ (put_word seen_field c₂ (to_at t a) 0) r₂
                 go is z y =
                     record {
@@ -353,13 +376,14 @@ module _ (x : Range) (t closed l p b : List ℕ) (depth v size n : ℕ) (d : Dee
                       room = room_back;
                       few = h;
                       listed = is;
-                      whole = ap (λ y. y ++ left (trip_of x t closed b) (wide x - depth - 1) (take depth p) (a + 1) e) z ∙ on-whole;
+                      whole = ap (λ k. insert_all (arcs_of t) k (left (trip_of x t closed b) (wide x - depth - 1) (take depth p) (a + 1) e)) z ∙ on-whole;
                       behind = y ∙ drop-on l m (r * wide x) (r₂ * wide x) (mul-le-mul_right (wide x) grows) g.behind;
+                      fresh = subst (FreshFrom (a + 1) (take depth p)) (sym z) (fresh-more (trip_of x t closed b) (wide x - depth - 1) (take depth p) (earlier_in (wide x) r m) a g.fresh);
                     }
                   where
                     grows : r ≤ r₂
                     grows =
-                        omega (arith, length-append (earlier_in (wide x) r m) (goes_on (trip_of x t closed b) (wide x - depth - 1) (take depth p ++ (a ∷ []))), ap length z, length-earlier_in (wide x) r₂ m₂, length-earlier_in (wide x) r m)
+                        omega (arith, insert_all-grows (arcs_of t) (goes_on (trip_of x t closed b) (wide x - depth - 1) (take depth p ++ (a ∷ []))) (earlier_in (wide x) r m), ap length z, length-earlier_in (wide x) r₂ m₂, length-earlier_in (wide x) r m)
 
             pub turn-over : x.slots < r₂ → Went x t closed l p b depth n m₂ q₂ (put_word seen_field c₂ (to_at t a) 0) r₂
             turn-over h =
@@ -376,7 +400,7 @@ module _ (x : Range) (t closed l p b : List ℕ) (depth v size n : ℕ) (d : Dee
                           o.1,
                           ap length by-arc,
                           ap length on-whole,
-                          length-append (earlier_in (wide x) r m ++ goes_on (trip_of x t closed b) (wide x - depth - 1) (take depth p ++ (a ∷ []))) (left (trip_of x t closed b) (wide x - depth - 1) (take depth p) (a + 1) e),
+                          insert_all-grows (arcs_of t) (left (trip_of x t closed b) (wide x - depth - 1) (take depth p) (a + 1) e) (insert_all (arcs_of t) (earlier_in (wide x) r m) (goes_on (trip_of x t closed b) (wide x - depth - 1) (take depth p ++ (a ∷ [])))),
                         ),
                       ))
                       w.found;
@@ -385,23 +409,28 @@ module _ (x : Range) (t closed l p b : List ℕ) (depth v size n : ℕ) (d : Dee
 -- ---- what the calls ask and leave, by what they read
 
 module _ (x : Range) (t closed l p b : List ℕ) (depth v size n : ℕ) (d : Deep x t closed l p b depth v size n) where
-  pub arrive-asks : (records t ≤ most_arcs) × Listed t (length p) n l × (depth ≤ length p) × Fits t (length p) (take depth p) × (x.slots * length p ≤ length l) × (x.slots < 4611686018427387904)
+  pub arrive-asks : (table_fault x.nodes t ≡ good) × Listed t (length p) n l × (length p ≤ most_nodes) × (size ≡ length_of (arcs_of t) (take depth p)) × (depth ≤ length p)
+      × Fits t (length p) (take depth p) × (x.slots * length p ≤ length l) × (x.slots < 4611686018427387904) × (Memᴰ (take depth p) (earlier_in (length p) n l) → ⊥)
   arrive-asks =
-      subst (λ k. (records t ≤ most_arcs) × Listed t k n l × (depth ≤ k) × Fits t k (take depth p) × (x.slots * k ≤ length l) × (x.slots < 4611686018427387904)) (sym d.path-long) (
-        (good-size x.nodes t d.fine).3,
+      subst (λ k. (table_fault x.nodes t ≡ good) × Listed t k n l × (k ≤ most_nodes) × (size ≡ length_of (arcs_of t) (take depth p)) × (depth ≤ k)
+      × Fits t k (take depth p) × (x.slots * k ≤ length l) × (x.slots < 4611686018427387904) × (Memᴰ (take depth p) (earlier_in k n l) → ⊥)) (sym d.path-long) (
+        d.fine,
         d.listed,
+        omega (arith, (good-size x.nodes t d.fine).1),
+        sym d.is-long,
         d.deep,
         path-fits x t closed l p b depth v size n d,
         d.slots,
         d.slots-few,
+        path-new x t closed l p b depth v size n d,
       )
 
   pub arrived : v ≡ x.goal → (m : List ℕ) (r : ℕ)
-      → ((x.slots ≤ n) × (r ≡ x.slots + 1) × (m ≡ l)) ⊎ ((n < x.slots) × (r ≡ n + 1) × Added t (length p) n l (take depth p) m) → Went x t closed l p b depth n m p b r
+      → ((x.slots ≤ n) × (r ≡ x.slots + 1) × (m ≡ l)) ⊎ ((n < x.slots) × (r ≡ n + 1) × Placed t (length p) n l (take depth p) m) → Went x t closed l p b depth n m p b r
   arrived e m r o =
       ⊎_elim
       (λ y. subst (λ z. Went x t closed l p b depth n z p b r) (sym y.2) (arrived-full x t closed l p b depth v size n d e y.0 r y.1))
-      (λ y. arrived-added x t closed l p b depth v size n d e m r y.0 y.1 (subst (λ k. Added t k n l (take depth p) m) d.path-long y.2))
+      (λ y. arrived-placed x t closed l p b depth v size n d e m r y.0 y.1 (subst (λ k. Placed t k n l (take depth p) m) d.path-long y.2))
       o
 
   pub turn-begin : (lo hi : ℕ) → lo ≡ run_start t v → hi ≡ run_start t (v + 1) → v ≢ x.goal → (run_start t v ≤ lo) × Turning x t closed l p b depth n lo hi l p b n

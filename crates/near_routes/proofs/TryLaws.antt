@@ -1,7 +1,7 @@
--- Going deeper arc by arc: what the arcs of the run find is what the definition finds, since no other arc leaves the end. What is found begins with the chain gone by and, where
--- it goes on, the arc that found it, so two arcs find nothing in common and no route is found twice.
+-- Going deeper arc by arc: what the arcs of the run find is what the definition finds, since no other arc leaves the end. What is found begins with the chain gone by, so no
+-- route is found twice.
 use mathlib.Core.Path.{◌≡◌, refl, sym, ap, ap₂, subst, ◌∙◌}
-use mathlib.Core.Logic.{◌≢◌, ⊎_elim}
+use mathlib.Core.Logic.{◌≢◌, ◌⊎◌, inl, inr, ⊎_elim}
 use mathlib.Core.List.Memᴰ
 use mathlib.Core.List.{List, [], ◌∷◌, ◌++◌, map, flat_map, append-nil, append_assoc, Memᴰ}
 use mathlib.Core.Bool.{Bool, true, false, not, ◌&&◌, cond}
@@ -14,14 +14,14 @@ use borrow.Author.Tests.{eq-eqb, ne_eqb, eqb-true, eqb-false}
 use Rattle.lists.specs.Tests.{has, keep, cons_if, up_from}
 use Rattle.lists.proofs.Cases.{cases}
 use Rattle.lists.proofs.TestLaws.{and_l, and_r, mem→has}
-use Rattle.net.specs.Net.{arc}
-use Rattle.net.specs.Route.{visited, end_of, leaves, partial, leaving, extensions}
+use Rattle.lists.proofs.MemberLaws.{flat_map-e}
+use Rattle.net.specs.Net.{Arc, arc}
+use Rattle.net.specs.Route.{visited, end_of, leaves, partial, length_of, leaving, extensions, before, place, insert}
 use Rattle.net.proofs.Chains.{Next, partial-more}
 use Rattle.net.proofs.Listing.{partial-short}
 use Rattle.net.proofs.Valid.{Sound}
-use Rattle.route_list.specs.Listed.{Once}
-use Rattle.variety.specs.Deeper.{may_arrive, deeper}
-use Rattle.near_routes.specs.Tries.{Trip, tries, goes_on, found_by, left, Begins}
+use Rattle.variety.specs.Deeper.{may_arrive, deeper, insert_all}
+use Rattle.near_routes.specs.Tries.{Trip, tries, goes_on, found_by, left, Begins, Fresh, FreshFrom}
 
 -- ---- lists of what is found
 
@@ -35,28 +35,6 @@ none_found : (f : ℕ → List (List ℕ)) (i n : ℕ) → ((a : ℕ) → i ≤ 
 unfolding flat_map up_from
 none_found f i zero h = refl
 none_found f i (suc n) h = ap₂ ◌++◌ (h i (omega arith) (omega arith)) (none_found f (suc i) n (λ a k l. h a (omega arith) (omega arith)))
-
--- what a range of numbers finds, one of them finds
-found_from : (f : ℕ → List (List ℕ)) (i n : ℕ) (r : List ℕ) → Memᴰ r (flat_map f (up_from i n)) → (a : ℕ) × (i ≤ a) × Memᴰ r (f a)
-unfolding flat_map up_from
-found_from f i zero r m = absurd (Memᴰ.not-nil m)
-found_from f i (suc n) r m =
-    ⊎_elim (λ k. (i, omega arith, k)) (λ k. let w = found_from f (suc i) n r k in (w.0, omega (arith, w.1), w.2)) (Memᴰ.append_cases (f i) m)
-
--- no route twice in two lists that have none in common, nor in what numbers find of which no two find the same
-once-append : (xs ys : List (List ℕ)) → Once xs → Once ys → ((r : List ℕ) → Memᴰ r xs → Memᴰ r ys → ⊥) → Once (xs ++ ys)
-once-append [] ys h k apart = k
-once-append (x ∷ xs) ys h k apart = (
-  λ m. ⊎_elim h.0 (apart x (Memᴰ.head refl)) (Memᴰ.append_cases xs m),
-  once-append xs ys h.1 k (λ r m. apart r (Memᴰ.tail m)),
-)
-
-once-flat_map : (f : ℕ → List (List ℕ)) (i n : ℕ) → ((a : ℕ) → Once (f a)) → ((a b : ℕ) (r : List ℕ) → Memᴰ r (f a) → Memᴰ r (f b) → a ≡ b) → Once (flat_map f (up_from i n))
-unfolding flat_map up_from
-once-flat_map f i zero h same = tt
-once-flat_map f i (suc n) h same =
-    once-append (f i) (flat_map f (up_from (suc i) n)) (h i) (once-flat_map f (suc i) n h same)
-    (λ r m k. let w = found_from f (suc i) n r k in omega (arith, w.1, same i w.0 r m w.2))
 
 up_from-append : (i m n : ℕ) → up_from i (m + n) ≡ up_from i m ++ up_from (i + m) n
 unfolding up_from
@@ -103,11 +81,6 @@ by_tests f l new may h (a ∷ xs) = outer (l a) (by_tests f l new may h xs)
         → flat_map f (keep may (map h (keep new (cons_if b a (keep l xs))))) ≡ cond (b && (new a && may (h a))) (f (h a)) [] ++ flat_map (λ a. cond (l a && (new a && may (h a))) (f (h a)) []) xs
     outer true i = middle (new a) i
     outer false i = i
-
--- chains that go on from p by two arcs are one only if the arcs are
-heads-same : (p : List ℕ) (a b : ℕ) (y z : List ℕ) → (p ++ (a ∷ [])) ++ y ≡ (p ++ (b ∷ [])) ++ z → a ≡ b
-heads-same [] a b y z e = cc
-heads-same (c ∷ p) a b y z e = heads-same p a b y z (let h : (p ++ (a ∷ [])) ++ y ≡ (p ++ (b ∷ [])) ++ z = cc in h)
 
 module _ (x : Trip) where
   pub deeper-there : (n : ℕ) (p : List ℕ) → end_of x.net.arcs x.s p ≡ x.t → goes_on x n p ≡ p ∷ []
@@ -157,47 +130,19 @@ module _ (x : Trip) where
   begins-more : (p r : List ℕ) (a : ℕ) → Begins (p ++ (a ∷ [])) r → Begins p r
   begins-more p r a b = record { onward = a ∷ b.onward; is = b.is ∙ append_assoc p (a ∷ []) b.onward }
 
-  found-e : (n : ℕ) (p : List ℕ) (a : ℕ) (r : List ℕ) → Memᴰ r (found_by x n p a) → Memᴰ r (goes_on x n (p ++ (a ∷ [])))
-  found-e n p a r m =
-      ⊎_elim (λ y. subst (Memᴰ r) (found-tried n p a y) m) (λ y. absurd (Memᴰ.not-nil (subst (Memᴰ r) (found_none n p a y) m))) (cases (tries x p a))
-
-  -- a chain is at its end, or goes on if an arc is left
-  with_none : (P : List (List ℕ) → Type 0) (p : List ℕ) → P (p ∷ []) → P [] → P (goes_on x 0 p)
-  with_none P p there none =
+  pub deeper-begins : (n : ℕ) (p r : List ℕ) → Memᴰ r (goes_on x n p) → Begins p r
+  deeper-begins zero p r m =
       ⊎_elim
-      (λ e. subst P (sym (deeper-there 0 p (eqb-true (end_of x.net.arcs x.s p) x.t e))) there)
-      (λ e. subst P (sym (deeper-end p (eqb-false (end_of x.net.arcs x.s p) x.t e))) none)
+      (λ e. self p r (subst (Memᴰ r) (deeper-there 0 p (eqb-true (end_of x.net.arcs x.s p) x.t e)) m))
+      (λ e. absurd (Memᴰ.not-nil (subst (Memᴰ r) (deeper-end p (eqb-false (end_of x.net.arcs x.s p) x.t e)) m)))
       (cases (eqb (end_of x.net.arcs x.s p) x.t))
-
-  with-more : (P : List (List ℕ) → Type 0) (n : ℕ) (p : List ℕ) → P (p ∷ []) → P (flat_map (found_by x n p) (up_from 0 (length x.net.arcs))) → P (goes_on x (suc n) p)
-  with-more P n p there on =
+  deeper-begins (suc n) p r m =
       ⊎_elim
-      (λ e. subst P (sym (deeper-there (suc n) p (eqb-true (end_of x.net.arcs x.s p) x.t e))) there)
-      (λ e. subst P (sym (deeper-on n p (eqb-false (end_of x.net.arcs x.s p) x.t e))) on)
+      (λ e. self p r (subst (Memᴰ r) (deeper-there (suc n) p (eqb-true (end_of x.net.arcs x.s p) x.t e)) m))
+      (λ e. let w = flat_map-e (found_by x n p) r (up_from 0 (length x.net.arcs)) (subst (Memᴰ r) (deeper-on n p (eqb-false (end_of x.net.arcs x.s p) x.t e)) m) in
+      ⊎_elim (λ y. begins-more p r w.0 (deeper-begins n (p ++ (w.0 ∷ [])) r (subst (Memᴰ r) (found-tried n p w.0 y) w.2)))
+      (λ y. absurd (Memᴰ.not-nil (subst (Memᴰ r) (found_none n p w.0 y) w.2))) (cases (tries x p w.0)))
       (cases (eqb (end_of x.net.arcs x.s p) x.t))
-
-  deeper-begins : (n : ℕ) (p r : List ℕ) → Memᴰ r (goes_on x n p) → Begins p r
-  deeper-begins zero p r = with_none (λ rs. Memᴰ r rs → Begins p r) p (self p r) (λ m. absurd (Memᴰ.not-nil m))
-  deeper-begins (suc n) p r =
-      with-more (λ rs. Memᴰ r rs → Begins p r) n p (self p r)
-      (λ m. let w = found_from (found_by x n p) 0 (length x.net.arcs) r m in begins-more p r w.0 (deeper-begins n (p ++ (w.0 ∷ [])) r (found-e n p w.0 r w.2)))
-
-  -- ---- no route twice
-
-  found-same : (n : ℕ) (p : List ℕ) (a b : ℕ) (r : List ℕ) → Memᴰ r (found_by x n p a) → Memᴰ r (found_by x n p b) → a ≡ b
-  found-same n p a b r m k =
-      let y = deeper-begins n (p ++ (a ∷ [])) r (found-e n p a r m) in
-      let z = deeper-begins n (p ++ (b ∷ [])) r (found-e n p b r k) in
-      heads-same p a b y.onward z.onward (sym y.is ∙ z.is)
-
-  found-once : (n : ℕ) (p : List ℕ) (a : ℕ) → Once (goes_on x n (p ++ (a ∷ []))) → Once (found_by x n p a)
-  found-once n p a h = ⊎_elim (λ y. subst Once (sym (found-tried n p a y)) h) (λ y. subst Once (sym (found_none n p a y)) tt) (cases (tries x p a))
-
-  pub deeper-once : (n : ℕ) (p : List ℕ) → Once (goes_on x n p)
-  deeper-once zero p = with_none Once p (Memᴰ.not-nil, tt) tt
-  deeper-once (suc n) p =
-      with-more Once n p (Memᴰ.not-nil, tt)
-      (once-flat_map (found_by x n p) 0 (length x.net.arcs) (λ a. found-once n p a (deeper-once n (p ++ (a ∷ [])))) (found-same n p))
 
   -- ---- the arcs of the run
 
@@ -236,3 +181,60 @@ left_step x n p a e h = let z : e - a ≡ suc (e - (a + 1)) = omega arith in rw 
 pub left-done : (x : Trip) (n : ℕ) (p : List ℕ) (a e : ℕ) → e ≤ a → left x n p a e ≡ []
 unfolding flat_map up_from
 left-done x n p a e h = let z : e - a ≡ 0 = omega arith in rw z
+
+-- ---- the list
+
+module _ (arcs : List Arc) where
+  insert-e : (r p : List ℕ) (l : List (List ℕ)) → Memᴰ r (insert (length_of arcs) p l) → (r ≡ p) ⊎ Memᴰ r l
+  unfolding insert
+  insert-e r p [] m = inl (Memᴰ.eq_of_singleton m)
+  insert-e r p (q ∷ l) m = go (before (length_of arcs) p q) (before (length_of arcs) q p) (insert-e r p l) m
+    where
+      go : (b c : Bool) → (Memᴰ r (insert (length_of arcs) p l) → (r ≡ p) ⊎ Memᴰ r l) → Memᴰ r (place b c p q l (insert (length_of arcs) p l)) → (r ≡ p) ⊎ Memᴰ r (q ∷ l)
+      go true c again k = Memᴰ.cases_cons k
+      go false true again k = ⊎_elim (λ e. inr (Memᴰ.head e)) (λ i. ⊎_elim (λ e. inl e) (λ j. inr (Memᴰ.tail j)) (again i)) (Memᴰ.cases_cons k)
+      go false false again k = inr k
+
+  pub insert_all-e : (r : List ℕ) (xs l : List (List ℕ)) → Memᴰ r (insert_all arcs l xs) → Memᴰ r l ⊎ Memᴰ r xs
+  unfolding insert_all
+  insert_all-e r [] l m = inl m
+  insert_all-e r (p ∷ xs) l m =
+      ⊎_elim (λ i. ⊎_elim (λ e. inr (Memᴰ.head e)) (λ j. inl j) (insert-e r p l i)) (λ i. inr (Memᴰ.tail i)) (insert_all-e r xs (insert (length_of arcs) p l) m)
+
+  pub insert_all-append : (xs ys l : List (List ℕ)) → insert_all arcs l (xs ++ ys) ≡ insert_all arcs (insert_all arcs l xs) ys
+  unfolding insert_all
+  insert_all-append [] ys l = refl
+  insert_all-append (x ∷ xs) ys l = insert_all-append xs ys (insert (length_of arcs) x l)
+
+  pub insert_all-one : (p : List ℕ) (l : List (List ℕ)) → insert_all arcs l (p ∷ []) ≡ insert (length_of arcs) p l
+  unfolding insert_all
+  insert_all-one p l = refl
+
+  pub insert_all-none : (l : List (List ℕ)) → insert_all arcs l [] ≡ l
+  unfolding insert_all
+  insert_all-none l = refl
+
+-- ---- no route twice
+
+heads-same : (p : List ℕ) (a b : ℕ) (y z : List ℕ) → (p ++ (a ∷ [])) ++ y ≡ (p ++ (b ∷ [])) ++ z → a ≡ b
+heads-same [] a b y z e = cc
+heads-same (c ∷ p) a b y z e = heads-same p a b y z (let h : (p ++ (a ∷ [])) ++ y ≡ (p ++ (b ∷ [])) ++ z = cc in h)
+
+pub fresh_start : (p : List ℕ) (rs : List (List ℕ)) (lo : ℕ) → Fresh p rs → FreshFrom lo p rs
+fresh_start p rs lo f r m b h k = f r m (record { onward = b ∷ k.onward; is = k.is ∙ append_assoc p (b ∷ []) k.onward })
+
+pub fresh-next : (p : List ℕ) (rs : List (List ℕ)) (a : ℕ) → FreshFrom a p rs → Fresh (p ++ (a ∷ [])) rs
+fresh-next p rs a f r m k = f r m a (omega arith) k
+
+pub fresh-later : (p : List ℕ) (rs : List (List ℕ)) (a : ℕ) → FreshFrom a p rs → FreshFrom (a + 1) p rs
+fresh-later p rs a f r m b h k = f r m b (omega arith) k
+
+pub fresh-more : (x : Trip) (n : ℕ) (p : List ℕ) (rs : List (List ℕ)) (a : ℕ) → FreshFrom a p rs → FreshFrom (a + 1) p (insert_all x.net.arcs rs (goes_on x n (p ++ (a ∷ []))))
+fresh-more x n p rs a f r m b h k =
+    ⊎_elim (λ i. f r i b (omega arith) k)
+    (λ i. let y = deeper-begins x n (p ++ (a ∷ [])) r i in let e : a ≡ b = heads-same p a b y.onward k.onward (sym y.is ∙ k.is) in omega arith)
+    (insert_all-e x.net.arcs r (goes_on x n (p ++ (a ∷ []))) rs m)
+
+-- a route that is there is not fresh
+pub fresh-new : (p : List ℕ) (rs : List (List ℕ)) → Fresh p rs → Memᴰ p rs → ⊥
+fresh-new p rs f m = f p m (record { onward = []; is = sym (append-nil p) })

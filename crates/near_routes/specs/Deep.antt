@@ -1,5 +1,5 @@
 -- The listing in the buffers: the path gone by, the nodes visited, and the list.
-use Rattle.std.specs.Prelude.{◌≡◌, ◌⊎◌, List, ◌++◌, Bool, not, ◌&&◌, ℕ, ◌+◌, ◌-◌, ◌*◌, ◌≤◌, ◌<◌, T, leb, eqb, length, take, drop}
+use Rattle.std.specs.Prelude.{◌≡◌, ◌⊎◌, List, Bool, not, ◌&&◌, ℕ, ◌+◌, ◌-◌, ◌*◌, ◌≤◌, ◌<◌, T, leb, eqb, length, take, drop}
 use Rattle.lists.specs.Tests.{has}
 use Rattle.net.specs.Route.{visited, end_of, partial, length_of}
 use Rattle.table.specs.Table.{to_at, len_at, arcs_of, is_open_at, net_of}
@@ -8,9 +8,10 @@ use Rattle.search_ask.specs.Earlier.{earlier_in}
 use Rattle.working_room.specs.Field.{long_at, word_at}
 use Rattle.remaining.specs.Standing.{far, field, go_in, Roomy}
 use Rattle.route_list.specs.Listed.{Listed}
+use Rattle.variety.specs.Deeper.{insert_all}
 use Rattle.net.specs.Limits.{most_d}
 use Rattle.near_routes.specs.declared.Range.{Range}
-use Rattle.near_routes.specs.Tries.{Trip, goes_on, left}
+use Rattle.near_routes.specs.Tries.{Trip, goes_on, left, Fresh, FreshFrom}
 
 -- Offset 16 of a node's record is not 0 where the node is visited.
 abbrev pub seen_field : ℕ
@@ -32,7 +33,7 @@ unfoldable pub goes_by : List ℕ → List ℕ → Range → List ℕ → ℕ �
 goes_by t closed x room a size =
     is_open_at closed a && (eqb (seen_at room (to_at t a)) 0 && leb ((size + len_at t a + long_at field room (to_at t a)) * x.d) x.most)
 
--- A path of `depth` arcs and this length leads to v, its nodes are marked, and n routes are listed.
+-- A path of `depth` arcs and this length leads to v, its nodes are marked, and n routes are listed, none of which begins with it.
 pub record Deep (x : Range) (t closed list path room : List ℕ) (depth v size n : ℕ) : Type 0 where
   pub fine : table_fault x.nodes t ≡ good
   pub roomy : Roomy x.nodes room
@@ -49,6 +50,7 @@ pub record Deep (x : Range) (t closed list path room : List ℕ) (depth v size n
   pub few : n ≤ x.slots
   pub slots : x.slots * wide x ≤ length list
   pub slots-few : x.slots < 4611686018427387904
+  pub fresh : Fresh (take depth path) (earlier_in (wide x) n list)
 
 -- The distances and the marks stand as they stood.
 pub record Kept (l m : List ℕ) : Type 0 where
@@ -61,13 +63,13 @@ abbrev pub Found : Range → List ℕ → List ℕ → List (List ℕ) → List 
 Found x t l rs m r =
     ((r ≤ x.slots) × Listed t (wide x) r m × (earlier_in (wide x) r m ≡ rs) × (drop (r * wide x) m ≡ drop (r * wide x) l)) ⊎ ((r ≡ x.slots + 1) × (x.slots < length rs))
 
--- What the listing from a path of `depth` arcs leaves: what it finds stands behind the n listed.
+-- What the listing from a path of `depth` arcs leaves.
 pub record Went (x : Range) (t closed l p b : List ℕ) (depth n : ℕ) (m q c : List ℕ) (r : ℕ) : Type 0 where
   pub list-long : length m ≡ length l
   pub path-long : length q ≡ length p
   pub path : take depth q ≡ take depth p
   pub room : Kept b c
-  pub found : Found x t l (earlier_in (wide x) n l ++ goes_on (trip_of x t closed b) (wide x - depth) (take depth p)) m r
+  pub found : Found x t l (insert_all (arcs_of t) (earlier_in (wide x) n l) (goes_on (trip_of x t closed b) (wide x - depth) (take depth p))) m r
 
 -- Between two arcs: those from a to e are left, and what they find makes the whole.
 pub record Turning (x : Range) (t closed l p b : List ℕ) (depth n a e : ℕ) (m q c : List ℕ) (r : ℕ) : Type 0 where
@@ -77,6 +79,7 @@ pub record Turning (x : Range) (t closed l p b : List ℕ) (depth n a e : ℕ) (
   pub room : Kept b c
   pub few : r ≤ x.slots
   pub listed : Listed t (wide x) r m
-  pub whole : earlier_in (wide x) r m ++ left (trip_of x t closed b) (wide x - depth - 1) (take depth p) a e
-      ≡ earlier_in (wide x) n l ++ goes_on (trip_of x t closed b) (wide x - depth) (take depth p)
+  pub whole : insert_all (arcs_of t) (earlier_in (wide x) r m) (left (trip_of x t closed b) (wide x - depth - 1) (take depth p) a e)
+      ≡ insert_all (arcs_of t) (earlier_in (wide x) n l) (goes_on (trip_of x t closed b) (wide x - depth) (take depth p))
   pub behind : drop (r * wide x) m ≡ drop (r * wide x) l
+  pub fresh : FreshFrom a (take depth p) (earlier_in (wide x) r m)

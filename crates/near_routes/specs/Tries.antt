@@ -1,6 +1,6 @@
 -- What going deeper looks at from a chain's end: the arcs of its run, one by one.
-use Rattle.std.specs.Prelude.{◌≡◌, Bool, not, ◌&&◌, cond, ℕ, ◌-◌}
-use mathlib.Core.List.{List, [], ◌∷◌, ◌++◌, flat_map}
+use Rattle.std.specs.Prelude.{◌≡◌, Bool, not, ◌&&◌, cond, ℕ, ◌-◌, ◌≤◌}
+use mathlib.Core.List.{List, [], ◌∷◌, ◌++◌, flat_map, Memᴰ}
 use Rattle.lists.specs.Tests.{has, up_from}
 use Rattle.net.specs.Net.{Net, arc}
 use Rattle.net.specs.Route.{visited, end_of, leaves}
@@ -34,7 +34,13 @@ found_by x n p a = cond (tries x p a) (goes_on x n (p ++ (a ∷ []))) []
 abbrev pub left : Trip → ℕ → List ℕ → ℕ → ℕ → List (List ℕ)
 left x n p a e = flat_map (found_by x n p) (up_from a (e - a))
 
--- r begins with p.
 pub record Begins (p r : List ℕ) : Type 0 where
   pub onward : List ℕ
   pub is : r ≡ p ++ onward
+
+-- None of the listed begins with p; none with p and an arc from a on.
+abbrev pub Fresh : List ℕ → List (List ℕ) → Type 0
+Fresh p rs = (r : List ℕ) → Memᴰ r rs → Begins p r → ⊥
+
+abbrev pub FreshFrom : ℕ → List ℕ → List (List ℕ) → Type 0
+FreshFrom a p rs = (r : List ℕ) → Memᴰ r rs → (b : ℕ) → a ≤ b → Begins (p ++ (b ∷ [])) r → ⊥

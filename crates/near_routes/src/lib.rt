@@ -1,5 +1,7 @@
-// "The listing goes deeper one unvisited node at a time": every route in range, listed when it is
-// found.
+// "The listing goes deeper one unvisited node at a time": every route in range, put in its place in
+// the list when it is found.
+#![tactic(auto)]
+
 pub mod step;
 
 ghost use Rattle.std.specs.Prelude.{◌≡◌};
@@ -7,7 +9,7 @@ ghost use Rattle.near_routes.specs.Deep.{Deep, Went};
 
 // What is in range, and how many slots the list has: from start to goal, d times a length being at
 // most `most`.
-#[derive(Drop)]
+#[derive(Clone, Copy)]
 pub struct Range {
     pub nodes: u32,
     pub start: u32,
@@ -17,7 +19,7 @@ pub struct Range {
     pub slots: usize,
 }
 
-// Lists the routes in range that go on from a path of `depth` arcs and this length to node v, behind
+// Lists the routes in range that go on from a path of `depth` arcs and this length to node v, beside
 // the n listed. How many are listed then, or one more than there are slots.
 pub fn deeper(
     table: &[u8],
@@ -39,7 +41,7 @@ pub fn deeper(
     let nodes = x.nodes;
     let slots = x.slots;
     if v == x.goal {
-        return step::arrive(table, slots, list, path, depth, n);
+        return step::arrive(table, nodes, slots, list, path, depth, size, n);
     }
     let end = table::run::run_start(table, nodes, v + 1);
     let mut found = n;

@@ -1,11 +1,15 @@
 // The steps of the listing.
 ghost use Rattle.std.specs.Prelude.{◌≡◌, ◌⊎◌, ℕ, ◌+◌, ◌*◌, ◌≤◌, ◌<◌, length, set, take};
-ghost use Rattle.net.specs.Limits.{most_arcs, most_d};
-ghost use Rattle.table.specs.Table.{records};
+ghost use mathlib.Core.List.{Memᴰ};
+ghost use Rattle.net.specs.Limits.{most_nodes};
+ghost use Rattle.net.specs.Route.{length_of};
+ghost use Rattle.table.specs.Table.{records, arcs_of};
 ghost use Rattle.table.specs.Fault.{table_fault, good};
+ghost use Rattle.search_ask.specs.Earlier.{earlier_in};
 ghost use Rattle.working_room.specs.Field.{room_bytes, put_word};
 ghost use Rattle.remaining.specs.Standing.{far, go_in, Roomy};
-ghost use Rattle.route_list.specs.Listed.{Fits, Listed, Added};
+ghost use Rattle.route_list.specs.Listed.{Fits, Listed, Placed};
+ghost use Rattle.net.specs.Limits.{most_d};
 ghost use Rattle.near_routes.specs.Deep.{seen_field, goes_by};
 
 use crate::Range;
@@ -34,31 +38,32 @@ pub fn goes(table: &[u8], closed: &[u8], x: Range, room: &[u8], a: usize, size: 
     whole * x.d <= x.most
 }
 
-// A path that has arrived is written behind the n listed, if there is a slot. How many are listed
-// then.
+// A path that has arrived is put in its place, if there is a slot. How many are listed then.
 pub fn arrive(
     table: &[u8],
+    nodes: u32,
     slots: usize,
     list: &mut [u32],
     path: &[u32],
     depth: usize,
+    size: u64,
     n: usize,
 ) -> usize
-    requires { (records table.now ≤ most_arcs)
-        × (Listed table.now (length path.now) n list.old) × (depth ≤ length path.now)
+    requires { (table_fault nodes table.now ≡ good)
+        × (Listed table.now (length path.now) n list.old) × (length path.now ≤ most_nodes)
+        × (size ≡ length_of (arcs_of table.now) (take depth path.now)) × (depth ≤ length path.now)
         × (Fits table.now (length path.now) (take depth path.now))
-        × (slots * length path.now ≤ length list.old) × (slots < 4611686018427387904) }
+        × (slots * length path.now ≤ length list.old) × (slots < 4611686018427387904)
+        × (Memᴰ (take depth path.now) (earlier_in (length path.now) n list.old) → ⊥) }
     ensures { ((slots ≤ n) × (result ≡ slots + 1) × (list.new ≡ list.old))
-        ⊎ ((n < slots) × (result ≡ n + 1) × (Added table.now (length path.now) n
+        ⊎ ((n < slots) × (result ≡ n + 1) × (Placed table.now (length path.now) n
         list.old (take depth path.now) list.new)) }
 {
     if slots <= n {
         return slots + 1;
     }
     let w = path.len();
-    let at = n * w;
-    let end = at + w;
-    route_list::write(&mut list[at..end], &path[0..depth]);
+    route_list::place(table, nodes, list, w, n, &path[0..depth], size);
     n + 1
 }
 

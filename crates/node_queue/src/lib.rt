@@ -1,6 +1,8 @@
 // A queue of nodes by key: a winner tree in the nodes' own records of the working room. Blocks of 1,
 // 2, 4, .. nodes stand side by side in twos; the node with which the second of two begins has the
 // winner of both. Nodes from n on do not play.
+#![tactic(auto)]
+
 pub mod lower;
 pub mod winner;
 

@@ -1,4 +1,6 @@
 // Decimal numbers in text: read at a place, and written at a place.
+#![tactic(auto)]
+
 ghost use Rattle.std.specs.Prelude.{◌≡◌, true, ◌+◌, ◌≤◌, length, drop, get_or};
 ghost use Rattle.words.specs.Part.{patch};
 ghost use Rattle.numerals.specs.Decimal.{is_digit, digits, well_formed, number, decimal};

@@ -1,4 +1,6 @@
 // The calls for programs in C, C++ and Rust. include/ojeonbut.h declares them.
+#![tactic(auto)]
+
 ghost use Rattle.std.specs.Prelude.{◌≡◌, min, length};
 ghost use Rattle.table.specs.Fault.{table_fault};
 ghost use Rattle.closures.specs.Closed.{next_open};
@@ -24,16 +26,14 @@ use table_part::Part;
 const VERSION: u32 = 10;
 
 // The version of these calls.
-#[unsafe(no_mangle)]
-pub extern "C" fn ojeonbut_version() -> u32
+pub fn ojeonbut_version() -> u32
     ensures { result ≡ version }
 {
     VERSION
 }
 
 // The fault of a table of so many nodes, or 0.
-#[unsafe(no_mangle)]
-pub extern "C" fn ojeonbut_check(table: &[u8], nodes: u32) -> Told
+pub fn ojeonbut_check(table: &[u8], nodes: u32) -> Told
     ensures { result ≡ table_fault nodes table.now }
 {
     table::fault::check(table, nodes)
@@ -41,8 +41,7 @@ pub extern "C" fn ojeonbut_check(table: &[u8], nodes: u32) -> Told
 
 // Where the arcs that leave node v stand in the table; an empty part where the table has a fault or
 // v is no node.
-#[unsafe(no_mangle)]
-pub extern "C" fn ojeonbut_arcs_from(table: &[u8], nodes: u32, v: u32) -> Part
+pub fn ojeonbut_arcs_from(table: &[u8], nodes: u32, v: u32) -> Part
     ensures { result ≡ part_of nodes table.now v }
 {
     table_part::arcs_from(table, nodes, v)
@@ -50,14 +49,7 @@ pub extern "C" fn ojeonbut_arcs_from(table: &[u8], nodes: u32, v: u32) -> Part
 
 // Where the run of a node stands in the one table or the other, by direction; an empty part where
 // either table is refused, there is no such node or the direction is none.
-#[unsafe(no_mangle)]
-pub extern "C" fn ojeonbut_run(
-    table: &[u8],
-    second: &[u8],
-    nodes: u32,
-    direction: u32,
-    node: u32,
-) -> Part
+pub fn ojeonbut_run(table: &[u8], second: &[u8], nodes: u32, direction: u32, node: u32) -> Part
     ensures { result
         ≡ run_part_by nodes table.now second.now direction node }
 {
@@ -66,8 +58,7 @@ pub extern "C" fn ojeonbut_run(
 
 // The query: table, node count, start, goal, number of routes, threshold a/b; and three lent
 // buffers: labels, route area, summaries.
-#[unsafe(no_mangle)]
-pub extern "C" fn ojeonbut_query(
+pub fn ojeonbut_query(
     table: &[u8],
     nodes: u32,
     s: u32,
@@ -93,8 +84,7 @@ pub extern "C" fn ojeonbut_query(
 
 // The query over the arcs that are not closed: `closed` has a byte for each arc, 0 open and 1
 // closed.
-#[unsafe(no_mangle)]
-pub extern "C" fn ojeonbut_query_closed(
+pub fn ojeonbut_query_closed(
     table: &[u8],
     nodes: u32,
     s: u32,
@@ -121,8 +111,7 @@ pub extern "C" fn ojeonbut_query_closed(
 }
 
 // The query over the open arcs, with two ratios for each route.
-#[unsafe(no_mangle)]
-pub extern "C" fn ojeonbut_query_ratios(
+pub fn ojeonbut_query_ratios(
     table: &[u8],
     nodes: u32,
     s: u32,
@@ -157,8 +146,7 @@ pub extern "C" fn ojeonbut_query_ratios(
 
 // The query for via routes over the open arcs: `second` is the table's arcs in order of end node,
 // `work` the working room.
-#[unsafe(no_mangle)]
-pub extern "C" fn ojeonbut_query_via(
+pub fn ojeonbut_query_via(
     table: &[u8],
     second: &[u8],
     nodes: u32,
@@ -189,8 +177,7 @@ pub extern "C" fn ojeonbut_query_via(
 
 // Two routes over the open arcs that share no arc, of least total length; `work` is the working
 // room.
-#[unsafe(no_mangle)]
-pub extern "C" fn ojeonbut_pair(
+pub fn ojeonbut_pair(
     table: &[u8],
     nodes: u32,
     s: u32,
@@ -214,8 +201,7 @@ pub extern "C" fn ojeonbut_pair(
 
 // The k most different of the simple routes over the open arcs whose length times d is at most d + c
 // times the shortest; all of these are listed, and their number stands beside outcome 0.
-#[unsafe(no_mangle)]
-pub extern "C" fn ojeonbut_variety(
+pub fn ojeonbut_variety(
     table: &[u8],
     nodes: u32,
     s: u32,
@@ -236,16 +222,14 @@ pub extern "C" fn ojeonbut_variety(
 }
 
 // The next open arc from `place` on, or `end`.
-#[unsafe(no_mangle)]
-pub extern "C" fn ojeonbut_next_arc(closed: &[u8], place: usize, end: usize) -> usize
+pub fn ojeonbut_next_arc(closed: &[u8], place: usize, end: usize) -> usize
     ensures { result ≡ next_open closed.now place end }
 {
     closures::next_arc(closed, place, end)
 }
 
 // A road file read into a table: its bytes, and the node count.
-#[unsafe(no_mangle)]
-pub extern "C" fn ojeonbut_read_roads(text: &[u8], table: &mut [u8]) -> MadeNumbers
+pub fn ojeonbut_read_roads(text: &[u8], table: &mut [u8]) -> MadeNumbers
     ensures { Numbered (λ answer. Read text.now table.old answer
         table.new) result }
 {
@@ -254,8 +238,7 @@ pub extern "C" fn ojeonbut_read_roads(text: &[u8], table: &mut [u8]) -> MadeNumb
 }
 
 // A table of so many nodes written as a road file: the text's bytes.
-#[unsafe(no_mangle)]
-pub extern "C" fn ojeonbut_write_roads(table: &[u8], nodes: u32, text: &mut [u8]) -> MadeNumbers
+pub fn ojeonbut_write_roads(table: &[u8], nodes: u32, text: &mut [u8]) -> MadeNumbers
     ensures { Numbered (λ answer. Written nodes table.now text.old
         answer text.new) result }
 {
@@ -265,8 +248,7 @@ pub extern "C" fn ojeonbut_write_roads(table: &[u8], nodes: u32, text: &mut [u8]
 
 // The routes in `routes` slots of `width` words stored under a plan number in a file of accepted
 // plans.
-#[unsafe(no_mangle)]
-pub extern "C" fn ojeonbut_plan_store(
+pub fn ojeonbut_plan_store(
     file: &mut [u8],
     plan: u32,
     slots: &[u32],
@@ -280,8 +262,7 @@ pub extern "C" fn ojeonbut_plan_store(
 }
 
 // The routes of a plan in slots of `width` words; beside 0 stands their number.
-#[unsafe(no_mangle)]
-pub extern "C" fn ojeonbut_plan_fetch(file: &[u8], plan: u32, slots: &mut [u32], width: u32) -> Told
+pub fn ojeonbut_plan_fetch(file: &[u8], plan: u32, slots: &mut [u32], width: u32) -> Told
     ensures { Fetched file.now plan slots.old width result
         slots.new }
 {
@@ -289,16 +270,14 @@ pub extern "C" fn ojeonbut_plan_fetch(file: &[u8], plan: u32, slots: &mut [u32],
 }
 
 // The records of a plan made free.
-#[unsafe(no_mangle)]
-pub extern "C" fn ojeonbut_plan_withdraw(file: &mut [u8], plan: u32) -> Told
+pub fn ojeonbut_plan_withdraw(file: &mut [u8], plan: u32) -> Told
     ensures { Withdrawn file.old plan result file.new }
 {
     plan_change::withdraw(file, plan)
 }
 
 // The records in use moved to the front, and zeros after them.
-#[unsafe(no_mangle)]
-pub extern "C" fn ojeonbut_plan_collect(file: &mut [u8]) -> Told
+pub fn ojeonbut_plan_collect(file: &mut [u8]) -> Told
     ensures { Collected file.old result file.new }
 {
     plan_change::collect(file)

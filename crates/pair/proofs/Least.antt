@@ -145,7 +145,7 @@ module _ (net : Net) (s t : ℕ) where
         (R : List ℕ) (way : Through net P s R t) (R-once : (x : ℕ) → count x R ≤ 1) (R-tight : (x : ℕ) → Memᴰ x R → Tight net φ P s t x) where
       pub made : (A : List ℕ) × (B : List ℕ) × Made φ P R A B
       made =
-          let k = along net φ P s t positive pot.on [] P [] (start net φ P s t P-route.is-chain P-route.ends (route-once P P-route) zero-s) way
+          let k = along net φ P s t positive pot.on [] P [] way (start net φ P s t P-route.is-chain P-route.ends (route-once P P-route) zero-s)
           (λ x. omega (arith, R-once x, count-nil x)) R-tight in
           let A = k.1 in
           let B = k.2 in

@@ -144,15 +144,15 @@ module _ (net : Net) (φ : ℕ → ℕ) (P : List ℕ) (s t : ℕ) where
           go (inr k) = off (parts_at (count→mem b B (omega (arith, st.kept b m))))
 
     -- the whole way: all its arcs are passed
-    pub along : {v : ℕ} {r : List ℕ} (done A B : List ℕ) → State done v A B → Through net P v r t → ((x : ℕ) → count x done + count x r ≤ 1) → ((x : ℕ) → Memᴰ x r → Tight x)
+    pub along : {v : ℕ} {r : List ℕ} (done A B : List ℕ) → Through net P v r t → State done v A B → ((x : ℕ) → count x done + count x r ≤ 1) → ((x : ℕ) → Memᴰ x r → Tight x)
         → (all : List ℕ) × (A' : List ℕ) × (B' : List ℕ) × State all t A' B' × ((x : ℕ) → count x all ≡ count x done + count x r)
-    along done A B st there o f = (done, A, B, st, λ x. omega (arith, count-nil x))
-    along done A B st (forth {v = v} {a = a} {r = r} n l w) o f =
-        let k = along (a ∷ done) A (B ++ (a ∷ [])) (step-forth done v A B a st n l (f a (Memᴰ.head refl))) w
+    along done A B there st o f = (done, A, B, st, λ x. omega (arith, count-nil x))
+    along done A B (forth {v = v} {a = a} {r = r} n l w) st o f =
+        let k = along (a ∷ done) A (B ++ (a ∷ [])) w (step-forth done v A B a st n l (f a (Memᴰ.head refl)))
         (λ x. omega (arith, o x, count-cons x a done, count-cons x a r)) (λ x m. f x (Memᴰ.tail m)) in
         (k.0, k.1, k.2, k.3, λ x. omega (arith, k.4 x, count-cons x a done, count-cons x a r))
-    along done A B st (back {v = v} {a = a} {r = r} n e w) o f =
+    along done A B (back {v = v} {a = a} {r = r} n e w) st o f =
         let j = step_back done v A B a st n (f a (Memᴰ.head refl)) e (omega (arith, o a, count-cons a a r, same-is a)) in
-        let k = along (a ∷ done) j.0 j.1 j.2 w
+        let k = along (a ∷ done) j.0 j.1 w j.2
         (λ x. omega (arith, o x, count-cons x a done, count-cons x a r)) (λ x m. f x (Memᴰ.tail m)) in
         (k.0, k.1, k.2, k.3, λ x. omega (arith, k.4 x, count-cons x a done, count-cons x a r))

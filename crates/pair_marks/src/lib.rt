@@ -1,6 +1,8 @@
 // The marks of the pair. The first search's route is marked on the way back from the goal; then the
 // way back along the second search's route takes marks away where it goes back over the first one,
 // and puts others.
+#![tactic(auto)]
+
 ghost use Rattle.std.specs.Prelude.{◌≡◌, ℕ, ◌+◌, ◌*◌, ◌≤◌, ◌<◌, length};
 ghost use Rattle.table.specs.Table.{records, from_at, net_of};
 ghost use Rattle.table.specs.Fault.{table_fault, good};

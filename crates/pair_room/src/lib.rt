@@ -1,4 +1,6 @@
 // The working room of the pair: what each node's record holds, and the fields of the two searches.
+#![tactic(auto)]
+
 ghost use Rattle.std.specs.Prelude.{◌≡◌};
 ghost use Rattle.pair_room.specs.Room.{first, again};
 

@@ -1,5 +1,7 @@
 // The second search of the pair, through the residual net of the first search's route: the marked
 // arcs turned round at no cost, the others each at its detour.
+#![tactic(auto)]
+
 ghost use Rattle.std.specs.Prelude.{◌≡◌, true, ◌+◌, ◌≤◌, ◌<◌};
 ghost use Rattle.table.specs.Table.{records, to_at, len_at, arcs_of, is_open_at, net_of};
 ghost use Rattle.table.specs.Fault.{table_fault, good};

@@ -1,8 +1,8 @@
 -- The two walks by the marks are the pair. By induction over the arcs that may still come: the walk by the first route's marks comes to t (`First`), and what it leaves
 -- over is the walk by the others' (`Second`).
-use mathlib.Core.Path.{◌≡◌, refl, sym, ap, subst, ◌∙◌}
+use mathlib.Core.Path.{◌≡◌, sym, ap, subst, ◌∙◌}
 use mathlib.Core.List.Memᴰ
-use mathlib.Core.List.{List, [], ◌∷◌, ◌++◌, append-nil, append_assoc, Memᴰ}
+use mathlib.Core.List.{List, [], ◌∷◌, ◌++◌, append-nil, append_assoc}
 use Prim.Native.Nat.{ℕ, zero, suc, pred, ◌+◌, ◌-◌, ◌≤◌, ◌<◌}
 use mathlib.Core.Option.{some}
 use mathlib.Core.Bool.{true, false}
@@ -12,7 +12,7 @@ use lib.Dec.{T}
 use lib.ListN.{length, take, drop, length-append}
 use Rattle.lists.specs.Tests.{lex}
 use Rattle.net.specs.Net.{Net, arc}
-use Rattle.net.specs.Route.{end_of, numbers_first, precedes}
+use Rattle.net.specs.Route.{numbers_first, precedes}
 use Rattle.net.proofs.Valid.{Sound}
 use Rattle.table.specs.Table.{arcs_of, net_of}
 use Rattle.table.specs.Fault.{table_fault, good}

@@ -1,9 +1,9 @@
 -- Two routes in two slots, read again and written anew.
 use mathlib.Core.Path.{◌≡◌, refl, sym, ap, ap₂, ◌∙◌}
-use mathlib.Core.List.{List, [], ◌∷◌, ◌++◌, append-nil, append_assoc}
+use mathlib.Core.List.{List, [], ◌++◌, append-nil, append_assoc}
 use Prim.Native.Nat.{ℕ, ◌+◌, ◌*◌, ◌-◌}
 use native.Mathlib.Omega.{arith}
-use lib.ListN.{length, take, drop, replicate, length-append}
+use lib.ListN.{length, take, drop, replicate}
 use lib.Seq.{take_at, drop_at, drop-drop}
 use Rattle.lists.specs.Tests.{lex}
 use Rattle.net.specs.Net.{Arc}
@@ -13,7 +13,7 @@ use Rattle.labels.specs.Chain.{slot_of}
 use Rattle.round.proofs.EarlierLaws.{length-slot_of}
 use Rattle.query_rounds.specs.Area.{area_with}
 use Rattle.pair_walks.specs.declared.Ways.{Ways}
-use Rattle.pair_walks.specs.Way.{way_of, Written}
+use Rattle.pair_walks.specs.Way.{Written}
 
 module _ (arcs : List Arc) (w : ℕ) (p q area a₁ : List ℕ) (x : Ways) (k : Written arcs w p q area a₁ x) where
   -- the slots one after the other

@@ -1,5 +1,7 @@
 // The pair read off the marks: two walks from s to the goal, into two slots, the one that precedes
 // in the first.
+#![tactic(auto)]
+
 ghost use Rattle.std.specs.Prelude.{◌≡◌, ◌≢◌, ◌+◌, ◌-◌, ◌*◌, ◌≤◌, ◌<◌, length, take, drop};
 ghost use Rattle.lists.specs.Tests.{lex};
 ghost use Rattle.words.specs.Part.{patch};
@@ -17,14 +19,14 @@ ghost use Rattle.pair_walks.specs.Way.{way_in, way_of, Walking, Written, Paired}
 use pair_room::{ADDED, KEPT, NONE};
 
 // The number of arcs of a route, and its length.
-#[derive(Drop)]
+#[derive(Clone, Copy)]
 pub struct Way {
     pub arcs: usize,
     pub length: u64,
 }
 
 // The routes of the two slots.
-#[derive(Drop)]
+#[derive(Clone, Copy)]
 pub struct Ways {
     pub first: Way,
     pub second: Way,

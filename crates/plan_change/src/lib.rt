@@ -1,4 +1,6 @@
 // A plan withdrawn from a file of accepted plans, and the file's records collected.
+#![tactic(auto)]
+
 ghost use Rattle.std.specs.Prelude.{◌≡◌, ◌%◌, ◌≤◌, ◌<◌, length};
 ghost use Rattle.plan_record.specs.Record.{record_bytes, records, with_record};
 ghost use Rattle.plan_change.specs.Change.{withdrawn_in, withdraw_outcome, Withdrawn};

@@ -1,4 +1,6 @@
 // A plan fetched from a file of accepted plans.
+#![tactic(auto)]
+
 ghost use Rattle.std.specs.Prelude.{◌≡◌, false, ◌&&◌, cond, ◌≢◌, ◌+◌, ◌*◌, ◌≤◌, ◌<◌, ltb, leb, eqb, length};
 ghost use Rattle.lists.specs.Tests.{any};
 ghost use Rattle.words.specs.Part.{patch};

@@ -1,5 +1,7 @@
 // A file of accepted plans as a whole: what is wrong with it, which plans it has, and its free
 // records.
+#![tactic(auto)]
+
 ghost use Rattle.std.specs.Prelude.{◌≡◌, true, ◌&&◌, cond, ◌+◌, ◌-◌, ◌≤◌, ◌<◌, eqb, length};
 ghost use Rattle.lists.specs.Tests.{up_from, any};
 ghost use Rattle.plan_record.specs.Record.{records, plan_at, rank_at, part_at, part_arcs};

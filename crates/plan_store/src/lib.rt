@@ -1,4 +1,6 @@
 // A plan stored in a file of accepted plans.
+#![tactic(auto)]
+
 mod place;
 mod slots;
 

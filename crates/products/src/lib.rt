@@ -1,4 +1,6 @@
 // Products too wide for 64 bits, compared without loss.
+#![tactic(auto)]
+
 ghost use Rattle.std.specs.Prelude.{◌≡◌, ◌*◌, ◌<◌, ltb};
 ghost use Rattle.products.specs.Product.{most_factor, high, low};
 

@@ -3,7 +3,7 @@
 use mathlib.Core.Path.{◌≡◌, refl, sym, ap, ap₂, subst, ◌∙◌}
 use mathlib.Core.Bool.{true, false, cond}
 use mathlib.Core.List.{List, [], ◌∷◌, ◌++◌, map, Memᴰ}
-use Prim.Native.Nat.{ℕ, ◌+◌, ◌-◌, ◌*◌, ◌/◌, ◌≤◌}
+use Prim.Native.Nat.{ℕ, ◌-◌, ◌*◌, ◌/◌, ◌≤◌}
 use native.Mathlib.Omega.{arith}
 use native.Mathlib.Nat.{mul-div_cancel}
 use borrow.Author.Tests.{le-ltb}
@@ -92,6 +92,7 @@ Fits (f ∷ fs) = Fit f × Fits fs
 fits-at : (fs : List Figure) → Fits fs → (f : Figure) → Memᴰ f fs → Fit f
 unfolding Fits
 fits-at (x ∷ fs) w f (Memᴰ.head e) = subst Fit (sym e) w.0
+fits-at [] w f x = elim x [ ]
 fits-at (x ∷ fs) w f (Memᴰ.tail m) = fits-at fs w.1 f m
 
 figures-fit : Fits figures

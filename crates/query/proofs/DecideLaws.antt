@@ -14,7 +14,6 @@ use borrow.Author.Tests.{eqb-true, eqb-false, ne_eqb}
 use Rattle.lists.proofs.Cases.{cases, order}
 use Rattle.lists.proofs.TestLaws.{and_l, and_r, or_l, or_r, eq→eqb}
 use Rattle.net.specs.Limits.{most_nodes, most_routes, most_b, most_labels}
-use Rattle.outcome.specs.declared.Told.{Told}
 use Rattle.outcome.specs.Outcome.{buffers, closures, plain}
 use Rattle.net.specs.Outcome.{told, answers, summaries, refusal}
 use Rattle.table.specs.Fault.{table_fault, good}

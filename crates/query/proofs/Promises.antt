@@ -5,7 +5,7 @@ use mathlib.Core.Logic.{◌⊎◌, inl, inr}
 use mathlib.Core.Option.{Option, none, some}
 use mathlib.Core.Bool.{Bool, true, false, cond}
 use mathlib.Core.List.{List, [], ◌∷◌, ◌++◌, map, append_assoc, append-nil, Memᴰ}
-use Prim.Native.Nat.{ℕ, zero, suc, ◌+◌, ◌≤◌, ◌<◌}
+use Prim.Native.Nat.{ℕ, zero, suc, ◌≤◌, ◌<◌}
 use native.Mathlib.Omega.{arith}
 use borrow.Author.Tests.{ltb-true, ltb-false, eqb-true}
 use Rattle.search_ask.proofs.AskLaws.{accepted-valid}
@@ -218,6 +218,7 @@ module _ (i : Input) (ok : table_fault i.ask.nodes i.table ≡ good) (right : wr
 -- each proved case: an input that asks it is told what the table says
 figure-reply : (fs : List Figure) → map (λ f. reply f.asked f.k) fs ≡ map (λ f. f.due) fs → (f : Figure) → Memᴰ f fs → reply f.asked f.k ≡ f.due
 figure-reply (x ∷ fs) h f (Memᴰ.head e) = let k : reply x.asked x.k ≡ x.due = cc in subst (λ y. reply y.asked y.k ≡ y.due) (sym e) k
+figure-reply [] h f x = elim x [ ]
 figure-reply (x ∷ fs) h f (Memᴰ.tail m) = let k : map (λ y. reply y.asked y.k) fs ≡ map (λ y. y.due) fs = cc in figure-reply fs k f m
 
 pub figure-told : (i : Input) → table_fault i.ask.nodes i.table ≡ good → wrong_closures i ≡ false → too_small i ≡ false → (f : Figure) → Memᴰ f figures → query_of i ≡ f.asked → i.k ≡ f.k → tells_due i ≡ f.due.told

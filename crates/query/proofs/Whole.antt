@@ -2,19 +2,18 @@
 -- answers; that each answer is rule 6's is demand 2.
 use mathlib.Core.Path.{◌≡◌, refl, sym, ap, ap₂, subst, ◌∙◌}
 use mathlib.Core.Logic.{◌⊎◌, inl, inr}
-use mathlib.Core.Bool.{Bool, true, false, ◌&&◌, cond}
+use mathlib.Core.Bool.{Bool, true, false, cond}
 use mathlib.Core.Option.{Option, none, some}
 use mathlib.Core.List.{List, [], ◌∷◌, ◌++◌, map, append_assoc, append-nil}
 use Prim.Native.Nat.{ℕ, zero, suc, ◌+◌, ◌-◌, ◌*◌, ◌≤◌, ◌<◌}
 use native.Mathlib.Omega.{arith}
 use borrow.Author.Tests.{ltb-true, ltb-false}
-use lib.Dec.{T, ltb}
+use lib.Dec.{ltb}
 use lib.ListN.{length, get_or, take, drop, replicate}
 use Rattle.words.specs.Part.{slot}
 use Rattle.outcome.specs.declared.Told.{Told}
 use Rattle.outcome.specs.Outcome.{found, fewer, room, plain, beside}
-use Rattle.net.specs.Route.{route}
-use Rattle.net.specs.Round.{Query, Ending, answered, unanswered, refused, within_all, judged, ending_by, ending, answer, count}
+use Rattle.net.specs.Round.{Query, Ending, answered, judged, ending_by, answer, count}
 use Rattle.net.specs.Outcome.{told, go_on, answers, rounds_by, rounds, summary, summaries, not_begun}
 use Rattle.net.proofs.Valid.{Valid}
 use Rattle.net.proofs.Listing.{partial-short}
@@ -27,7 +26,7 @@ use Rattle.query_rounds.specs.Progress.{as_record}
 use Rattle.query_rounds.proofs.AreaLaws.{slots_at}
 use Rattle.query.specs.Query.{Input, query_of, width, reaches, rounds_of, tells_due, labels_due, area_due, sums_due, refused_of, Replied}
 use Rattle.query.specs.Promises.{before}
-use Rattle.query.specs.Whole.{Eligible, Answers, Ends, sums_for, Whole}
+use Rattle.query.specs.Whole.{Answers, Ends, sums_for, Whole}
 use Rattle.query.proofs.DecideLaws.{passed}
 use Rattle.query.proofs.Promises.{demand-2, reached}
 

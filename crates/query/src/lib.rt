@@ -1,4 +1,6 @@
 // The query: every input gets its outcome, every buffer its contents.
+#![tactic(auto)]
+
 ghost use Rattle.std.specs.Prelude.{◌≡◌, ◌&&◌, [], ◌≤◌};
 ghost use Rattle.net.specs.Limits.{most_nodes, most_routes};
 ghost use Rattle.net.specs.Outcome.{refusal};
@@ -25,7 +27,7 @@ pub const MOST_LABELS: usize = 65535;
 
 // What is wanted beside the ask: how many routes, whether closures are lent, and how many summaries
 // are (last, so that less padding stands between them).
-#[derive(Drop)]
+#[derive(Clone, Copy)]
 pub struct Wish {
     pub k: u32,
     pub closing: bool,

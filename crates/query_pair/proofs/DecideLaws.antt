@@ -1,7 +1,7 @@
 -- The decisions of the call for a pair in their order: those of the query with closures, for two routes at the threshold 0/1. Where the call is refused everything is as
 -- it was; where it is not, what the searches make is what is due.
 use mathlib.Core.Path.{◌≡◌, refl, sym, ap, subst, ◌∙◌}
-use mathlib.Core.Bool.{Bool, true, false, not, ◌||◌, cond}
+use mathlib.Core.Bool.{Bool, true, false, ◌||◌, cond}
 use mathlib.Core.List.{List, [], ◌++◌}
 use mathlib.Core.Logic.{◌⊎◌, inl, inr, ⊎_elim}
 use Prim.Native.Nat.{ℕ, ◌*◌, ◌≤◌}

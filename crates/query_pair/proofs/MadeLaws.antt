@@ -3,7 +3,7 @@ use mathlib.Core.Path.{◌≡◌, refl, sym, ap, subst, ◌∙◌}
 use mathlib.Core.Logic.{inl, inr}
 use mathlib.Core.List.{List, [], ◌∷◌}
 use mathlib.Core.Bool.{Bool, true, false}
-use mathlib.Core.Option.{none, some}
+use mathlib.Core.Option.{none}
 use Prim.Native.Nat.{ℕ, ◌-◌, ◌≤◌, ◌<◌}
 use native.Mathlib.Omega.{arith}
 use lib.Dec.{T}
@@ -11,7 +11,6 @@ use lib.ListN.{length, replicate}
 use Rattle.net.specs.Limits.{most_length}
 use Rattle.net.specs.Net.{Net}
 use Rattle.net.specs.Round.{Query}
-use Rattle.net.specs.Outcome.{summary, summaries}
 use Rattle.table.specs.Table.{net_of}
 use Rattle.table.specs.Fault.{table_fault, good}
 use Rattle.table.proofs.FaultLaws.{good-size}
@@ -25,7 +24,7 @@ use Rattle.pair.proofs.Whole.{first-none, whole-none}
 use Rattle.pair_room.specs.Room.{far, further, first, again}
 use Rattle.pair_room.specs.Stages.{dist_of, Reached, Searched, Settled}
 use Rattle.pair_walks.specs.declared.Ways.{Ways}
-use Rattle.pair_walks.specs.Way.{way_of, Paired}
+use Rattle.pair_walks.specs.Way.{Paired}
 use Rattle.query_pair.specs.Made.{Prepared, told_for, summaries_for, none_got, got_of, Made}
 
 module _ (n : ℕ) (t closed : List ℕ) (ok : table_fault n t ≡ good) (s goal : ℕ) (below : s < n) (l : List ℕ) where
@@ -46,12 +45,12 @@ module _ (n : ℕ) (t closed : List ℕ) (ok : table_fault n t ≡ good) (s goal
 -- ---- what `prepare` tells
 
 pub prepared-true : (net : Net) (s t : ℕ) (l : List ℕ) (r : Bool) → Prepared net s t l r → r ≡ true → Settled net s t l
-prepared-true net s t l r (inl h) e = h.1
-prepared-true net s t l r (inr h) e = absurd (subst T (sym e ∙ h.0) tt)
+prepared-true _ s t l r (inl h) e = h.1
+prepared-true _ s t l r (inr h) e = absurd (subst T (sym e ∙ h.0) tt)
 
 pub prepared-false : (net : Net) (s t : ℕ) (l : List ℕ) (r : Bool) → Prepared net s t l r → r ≡ false → NoPair net s t × (least_total net s t ≡ none)
-prepared-false net s t l r (inl h) e = absurd (subst T (sym h.0 ∙ e) tt)
-prepared-false net s t l r (inr h) e = (h.1, h.2)
+prepared-false _ s t l r (inl h) e = absurd (subst T (sym h.0 ∙ e) tt)
+prepared-false _ s t l r (inr h) e = (h.1, h.2)
 
 module _ (q : Query) (area room : List ℕ) (w : ℕ) where
   pub made_none : NoPair q.net q.s q.t → least_total q.net q.s q.t ≡ none → (area' room' : List ℕ) → area' ≡ area_with w 2 area [] → room' ≡ replicate (length room) 0

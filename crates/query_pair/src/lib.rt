@@ -1,4 +1,6 @@
 // Two routes with nothing in common: every input gets its outcome, every buffer its contents.
+#![tactic(auto)]
+
 mod made;
 
 ghost use Rattle.std.specs.Prelude.{◌≡◌, ◌≤◌, []};

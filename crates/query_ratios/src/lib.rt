@@ -1,4 +1,6 @@
 // The query over open arcs, with the ratios of its routes.
+#![tactic(auto)]
+
 ghost use Rattle.std.specs.Prelude.{◌≡◌, [], ◌≢◌, min};
 ghost use Rattle.search_ask.specs.Ask.{net_for, width};
 ghost use Rattle.search_ask.specs.Earlier.{earlier_in};
@@ -75,12 +77,16 @@ pub fn core_ratios(
         a: a,
         b: b,
     };
-    let told = g.told;
+    let told = Told {
+        outcome: g.told.outcome,
+        number: g.told.number,
+    };
     let sums = g.sums;
+    let n = g.n;
     Rated {
         told: told,
         sums: sums,
         rows: rows_of(table, ask, area, g),
-        n: g.n,
+        n: n,
     }
 }

@@ -1,7 +1,7 @@
 -- The rounds of a query, as its loop has them. The query depends on the labels only by their length, which no round changes.
 use mathlib.Core.Path.{◌≡◌, refl, sym, ap, subst, ◌∙◌}
 use mathlib.Core.Logic.{◌≢◌}
-use mathlib.Core.List.{List, []}
+use mathlib.Core.List.{List}
 use Prim.Native.Nat.{ℕ, ◌-◌, ◌*◌, ◌≤◌}
 use lib.ListN.{length, replicate}
 use Rattle.lists.specs.Tests.{up_from}

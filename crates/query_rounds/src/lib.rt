@@ -1,4 +1,6 @@
 // The rounds of a query, one after the other.
+#![tactic(auto)]
+
 ghost use Rattle.std.specs.Prelude.{◌≡◌, cond, ◌≢◌, ◌<◌, ◌≤◌, eqb, length, set};
 ghost use Rattle.net.specs.Limits.{most_routes};
 ghost use Rattle.search_ask.specs.Ask.{query_for, width};
@@ -27,14 +29,14 @@ pub struct Got {
 }
 
 // How many rounds were answered, and the stage.
-#[derive(Drop)]
+#[derive(Clone, Copy)]
 pub struct Stand {
     pub r: usize,
     pub stage: u8,
 }
 
 // What a round adds to the progress: the new number of answers, the stage, and its summary.
-#[derive(Drop)]
+#[derive(Clone, Copy)]
 struct Added {
     r: usize,
     stage: u8,

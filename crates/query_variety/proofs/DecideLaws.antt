@@ -1,7 +1,7 @@
 -- The decisions of the call in their order: those of the query with closures at the threshold 0/1, then the buffers and the range. Where the call is refused everything is
 -- as it was; where it is not, what is made is what is due.
 use mathlib.Core.Path.{◌≡◌, refl, sym, ap, subst, ◌∙◌}
-use mathlib.Core.Bool.{Bool, true, false, not, ◌||◌, cond}
+use mathlib.Core.Bool.{Bool, true, false, cond}
 use mathlib.Core.List.{List, []}
 use mathlib.Core.Logic.{◌⊎◌, inl, inr, ⊎_elim}
 use Prim.Native.Nat.{ℕ, ◌*◌, ◌≤◌}

@@ -13,7 +13,6 @@ use lib.Dec.{T, ltb, leb, leb→le}
 use lib.ListN.{length, get_or, drop, replicate, length-replicate}
 use lib.Seq.{drop-drop}
 use borrow.Author.Tests.{lt-ltb, le-ltb}
-use Rattle.lists.specs.Tests.{distinct}
 use borrow.Rule.Slice.PartMut.{put_mid, mid_of}
 use Rattle.lists.proofs.Cases.{order}
 use Rattle.lists.proofs.TestLaws.{and_l, and_r}
@@ -21,13 +20,12 @@ use Rattle.words.specs.Part.{patch, slot}
 use Rattle.words.proofs.PartLaws.{back, lent, length-patch, drop-after}
 use Rattle.outcome.specs.declared.Told.{Told}
 use Rattle.outcome.specs.Outcome.{found, list_full, too_few, plain, beside}
-use Rattle.net.specs.Net.{Net, arc}
+use Rattle.net.specs.Net.{Net}
 use Rattle.net.specs.Limits.{most_nodes, most_d}
 use Rattle.net.specs.Route.{partial, length_of}
 use Rattle.net.proofs.Valid.{Sound}
-use Rattle.table.specs.Table.{records, from_at, arcs_of, net_of}
+use Rattle.table.specs.Table.{arcs_of, net_of}
 use Rattle.table.specs.Fault.{table_fault, good}
-use Rattle.table.proofs.FaultLaws.{good-size}
 use Rattle.table.proofs.NetLaws.{arc-is, table-sound}
 use Rattle.labels.specs.Field.{no_number}
 use Rattle.search_ask.specs.Earlier.{route_in, earlier_in}

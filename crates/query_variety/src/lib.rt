@@ -1,4 +1,6 @@
 // The most different of the near-shortest: every input gets its outcome, every buffer its contents.
+#![tactic(auto)]
+
 mod made;
 
 ghost use Rattle.std.specs.Prelude.{◌≡◌, [], ◌≤◌};
@@ -12,7 +14,7 @@ use search_ask::Ask;
 pub const MOST_D: u32 = 1000;
 
 // How many routes are wanted, and how far beyond the shortest: c/d of it.
-#[derive(Drop)]
+#[derive(Clone, Copy)]
 pub struct Wish {
     pub k: u32,
     pub c: u32,

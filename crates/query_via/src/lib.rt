@@ -1,4 +1,6 @@
 // The query for via routes: every input gets its outcome, every buffer its contents.
+#![tactic(auto)]
+
 ghost use Rattle.std.specs.Prelude.{◌≡◌, [], ◌≤◌};
 ghost use Rattle.net.specs.Limits.{most_nodes, most_routes};
 ghost use Rattle.query_via.specs.Via.{given, input, too_small, refused_of, Cored};
@@ -8,7 +10,7 @@ use query_rounds::Got;
 use search_ask::Ask;
 
 // What is wanted beside the ask: how many routes, and how many summaries are lent.
-#[derive(Drop)]
+#[derive(Clone, Copy)]
 pub struct Wish {
     pub k: u32,
     pub lent: usize,

@@ -1,5 +1,7 @@
 // The two figures that the dispatcher's screen shows of a route: by value, and written to a lent
 // slice of records.
+#![tactic(auto)]
+
 mod share;
 
 ghost use Rattle.std.specs.Prelude.{◌≡◌, [], ◌+◌, ◌<◌, ◌≤◌, length};
@@ -16,21 +18,21 @@ use summary::Sums;
 
 // The greatest overlap ratio with an earlier route, and the length over the first route's.
 #[repr(C)]
-#[derive(Drop)]
+#[derive(Clone, Copy)]
 pub struct Ratios {
     pub overlap: f64,
     pub detour: f64,
 }
 
 // The ratios of all rounds by value: a row of numbers for each field.
-#[derive(Drop)]
+#[derive(Clone, Copy)]
 pub struct Rows {
     pub overlap: [f64; summary::MOST_ROUTES],
     pub detour: [f64; summary::MOST_ROUTES],
 }
 
 // A fraction of two whole numbers.
-#[derive(Drop)]
+#[derive(Clone, Copy)]
 pub struct Fraction {
     pub over: u64,
     pub under: u64,

@@ -1,4 +1,6 @@
 // Distances from a node, and to a node, by a search with a queue in the working room.
+#![tactic(auto)]
+
 pub mod backward;
 mod choice;
 pub mod forward;
@@ -6,7 +8,7 @@ pub mod step;
 
 // Where a search keeps a node's distance and last arc in its record, and what stands for no
 // distance.
-#[derive(Drop)]
+#[derive(Clone, Copy)]
 pub struct Stand {
     pub dist: usize,
     pub last: usize,

@@ -3,7 +3,7 @@
 use mathlib.Core.Path.{◌≡◌, refl, sym, ap, subst, ◌∙◌}
 use mathlib.Core.Logic.{◌≢◌, ◌⊎◌, inl, inr, ⊎_elim}
 use mathlib.Core.Option.{none, some}
-use mathlib.Core.List.{List, [], ◌∷◌}
+use mathlib.Core.List.{List, ◌∷◌}
 use Prim.Native.Nat.{ℕ, zero, suc, ◌+◌, ◌≤◌, ◌<◌}
 use native.Mathlib.Omega.{arith}
 use native.Mathlib.Decide.{ℕ_discrete}
@@ -12,7 +12,7 @@ use Rattle.net.specs.Net.{Net, arc}
 use Rattle.net.specs.Route.{end_of, chain, partial, length_of}
 use Rattle.net.proofs.Valid.{Sound}
 use Rattle.net.proofs.Chains.{leaves-i, cons-chain, partial-chain}
-use Rattle.distances.specs.Distance.{distance, Distance}
+use Rattle.distances.specs.Distance.{distance}
 use Rattle.distances.specs.Search.{Open}
 use Rattle.distances.proofs.Dijkstra.{cut-cycles}
 use Rattle.distances.proofs.First.{distance_is, distance-is-none}

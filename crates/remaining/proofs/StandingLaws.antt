@@ -2,12 +2,12 @@
 use mathlib.Core.Path.{◌≡◌, refl, sym, ap, subst, ◌∙◌}
 use mathlib.Core.Logic.{◌≢◌, ◌⊎◌, inl, inr, ⊎_elim}
 use mathlib.Core.Bool.{Bool, true, false, not}
-use mathlib.Core.List.{List, [], ◌∷◌}
-use Prim.Native.Nat.{ℕ, zero, suc, ◌+◌, ◌*◌, ◌^◌, ◌≤◌, ◌<◌}
+use mathlib.Core.List.{List, []}
+use Prim.Native.Nat.{ℕ, ◌+◌, ◌*◌, ◌^◌, ◌≤◌, ◌<◌}
 use native.Mathlib.Omega.{arith}
 use native.Mathlib.Decide.{ℕ_discrete}
 use native.Mathlib.Nat.{mul-le-mul_right}
-use lib.Dec.{T, ltb}
+use lib.Dec.{T}
 use lib.ListN.{length}
 use borrow.Author.Tests.{lt-ltb, le-ltb}
 use Rattle.lists.proofs.Cases.{order}
@@ -19,13 +19,12 @@ use Rattle.net.proofs.Listing.{partial-short}
 use Rattle.table.specs.Table.{records, from_at, to_at, len_at, arcs_of, is_open_at, net_of}
 use Rattle.table.specs.Fault.{table_fault, good}
 use Rattle.table.proofs.FaultLaws.{all-good, good-size}
-use Rattle.table.proofs.NetLaws.{arcs-length, arc-is, table-sound, len-most, from-below}
+use Rattle.table.proofs.NetLaws.{arcs-length, arc-is, table-sound, len-most}
 use Rattle.working_room.specs.Field.{room_bytes, long_at, put_long, Within}
 use Rattle.working_room.proofs.RoomLaws.{long-put, long-put-node, within-long, within_same, within-trans}
 use Rattle.distances.specs.Search.{Open}
-use Rattle.variety.specs.Deeper.{ToGo}
-use Rattle.remaining.specs.Going.{Goes, Going, total}
-use Rattle.remaining.specs.Standing.{far, field, Roomy, go_in, sum_in, Cleared, Begun, Relaxed, Looked, in_turn, Passed, Settled}
+use Rattle.remaining.specs.Going.{Going}
+use Rattle.remaining.specs.Standing.{far, field, Roomy, go_in, sum_in, Cleared, Begun, Looked, Passed, Settled}
 use Rattle.remaining.proofs.GoingLaws.{total-less, going-lower}
 
 -- ---- a node's record
@@ -86,30 +85,19 @@ going-begun net goal l m h b =
     other : (v : ℕ) → v ≢ goal → go_in net.nodes m v ≡ far
     other v e = ⊎_elim (λ k. go-past net.nodes m v k) (λ k. go-below net.nodes m v k ∙ b.fars v k e) (order net.nodes v)
 
--- ---- a pass, forth or back
-
-pub turn_below : (back : Bool) (n i : ℕ) → i < n → in_turn back n i < n
-unfolding in_turn
-turn_below true n i h = omega arith
-turn_below false n i h = h
-
--- each arc has its turn
-turn_twice : (back : Bool) (n a : ℕ) → a < n → in_turn back n (in_turn back n a) ≡ a
-unfolding in_turn
-turn_twice true n a h = omega arith
-turn_twice false n a h = refl
+-- ---- a pass
 
 module _ (nodes : ℕ) (t closed : List ℕ) (goal : ℕ) where
   net : Net
   net = net_of nodes t closed
 
-  pub passed_none : (back : Bool) (l : List ℕ) → Going (net_of nodes t closed) goal far (go_in nodes l) → Passed (net_of nodes t closed) t closed goal back 0 l l 0
-  passed_none back l g = record { within = within_same field 8 l; going = g; few = omega arith; outcome = inl (refl, refl, λ i h. absurd (omega arith)) }
+  pub passed_none : (l : List ℕ) → Going (net_of nodes t closed) goal far (go_in nodes l) → Passed (net_of nodes t closed) t closed goal 0 l l 0
+  passed_none l g = record { within = within_same field 8 l; going = g; few = omega arith; outcome = inl (refl, refl, λ b h. absurd (omega arith)) }
 
   module _ (fine : table_fault nodes t ≡ good) where
-    module _ (back : Bool) (i a : ℕ) (turn : a ≡ in_turn back (records t) i) (l m r : List ℕ) (n k : ℕ) (room : Roomy nodes l) (h : a < records t)
-        (p : Passed (net_of nodes t closed) t closed goal back i l m n) where
-      kept : k ≡ 0 → r ≡ m → Relaxed t closed m a → Passed (net_of nodes t closed) t closed goal back (i + 1) l r (n + k)
+    module _ (a : ℕ) (l m r : List ℕ) (n k : ℕ) (room : Roomy nodes l) (h : a < records t) (p : Passed (net_of nodes t closed) t closed goal a l m n) where
+      kept : k ≡ 0 → r ≡ m → (is_open_at closed a ≡ true → long_at field m (from_at t a) ≤ long_at field m (to_at t a) + len_at t a)
+          → Passed (net_of nodes t closed) t closed goal (a + 1) l r (n + k)
       kept z e f =
           record {
             within = subst (Within field 8 l) (sym e) p.within;
@@ -119,9 +107,10 @@ module _ (nodes : ℕ) (t closed : List ℕ) (goal : ℕ) where
                 (λ o. inl (
                   omega (arith, o.0),
                   e ∙ o.1,
-                  λ j d. ⊎_elim
-                      (λ y. subst (Relaxed t closed l) (turn ∙ ap (in_turn back (records t)) (sym y)) (subst (λ x. Relaxed t closed x a) o.1 f))
-                      (λ y. o.2 j (omega (arith, y))) (either-node j i),
+                  λ b d i. ⊎_elim
+                      (λ y. subst (λ x. long_at field l (from_at t x) ≤ long_at field l (to_at t x) + len_at t x) (sym y)
+                      (subst (λ x. long_at field x (from_at t a) ≤ long_at field x (to_at t a) + len_at t a) o.1 (f (subst (λ x. is_open_at closed x ≡ true) y i))))
+                      (λ y. o.2 b (omega (arith, y)) i) (either-node b a),
                 ))
                 (λ o. inr (omega (arith, o.0), subst (λ x. sum_in nodes x < sum_in nodes l) (sym e) o.1))
                 p.outcome;
@@ -169,7 +158,7 @@ module _ (nodes : ℕ) (t closed : List ℕ) (goal : ℕ) where
             (rw x (go-below nodes r (from_at t a) u-below ∙ new ∙ ap (λ z. z + len_at t a) (sym (go-below nodes m (to_at t a) w-below))))
             (rw x go_same)
 
-        fell : Passed (net_of nodes t closed) t closed goal back (i + 1) l r (n + k)
+        fell : Passed (net_of nodes t closed) t closed goal (a + 1) l r (n + k)
         unfolding by
         fell =
             record {
@@ -179,20 +168,19 @@ module _ (nodes : ℕ) (t closed : List ℕ) (goal : ℕ) where
               outcome = inr (omega arith, ⊎_elim (λ o. subst (λ x. sum_in nodes r < sum_in nodes x) o.1 sum) (λ o. omega (arith, sum, o.1)) p.outcome);
             }
 
-      pub passed-more : Looked t closed a m r k → Passed (net_of nodes t closed) t closed goal back (i + 1) l r (n + k)
+      pub passed-more : Looked t closed a m r k → Passed (net_of nodes t closed) t closed goal (a + 1) l r (n + k)
       passed-more o = ⊎_elim (λ x. kept x.0 x.1 x.2) (λ x. fell x.0 x.1 x.2 x.3) o
 
     -- nothing changed: the distances are there
-    pub settled : (back : Bool) (l₀ l m : List ℕ) → Within field 8 l₀ l → Passed (net_of nodes t closed) t closed goal back (records t) l m 0 → Settled (net_of nodes t closed) goal l₀ m
-    settled back l₀ l m w p = record { within = within-trans w p.within; going = p.going; to-go = record { zero-t = p.going.zero-t; relaxed = ⊎_elim (λ o a i. relaxed o a i) (λ o. absurd (omega (arith, o.0))) p.outcome } }
+    pub settled : (l₀ l m : List ℕ) → Within field 8 l₀ l → Passed (net_of nodes t closed) t closed goal (records t) l m 0 → Settled (net_of nodes t closed) goal l₀ m
+    settled l₀ l m w p = record { within = within-trans w p.within; going = p.going; to-go = record { zero-t = p.going.zero-t; relaxed = ⊎_elim (λ o a i. relaxed o a i) (λ o. absurd (omega (arith, o.0))) p.outcome } }
       where
-        relaxed : (◌≡◌ {A = ℕ} 0 0) × (m ≡ l) × ((i : ℕ) → i < records t → Relaxed t closed l (in_turn back (records t) i))
+        relaxed : (◌≡◌ {A = ℕ} 0 0) × (m ≡ l) × ((b : ℕ) → b < records t → is_open_at closed b ≡ true → long_at field l (from_at t b) ≤ long_at field l (to_at t b) + len_at t b)
             → (a : ℕ) → Open (net_of nodes t closed) a → go_in nodes m (arc (arcs_of t) a).from ≤ go_in nodes m (arc (arcs_of t) a).to + (arc (arcs_of t) a).len
         relaxed o a i =
             let h : a < records t = omega (arith, i.0, arcs-length t) in
             let g = all-good nodes t fine a h in
-            let turn = o.2 (in_turn back (records t) a) (turn_below back (records t) a h) in
-            let k = subst (Relaxed t closed l) (turn_twice back (records t) a h) turn (true-i (is_open_at closed a) i.1) in
+            let k = o.2 a h (true-i (is_open_at closed a) i.1) in
             rw (arc-is t a h, o.1) (omega (arith, go-below nodes l (to_at t a) g.end, go-below nodes l (from_at t a) g.start))
           where
             true-i : (b : Bool) → T b → b ≡ true
@@ -229,5 +217,5 @@ is_open false x = let z : ◌≡◌ {A = ℕ} 0 1 = cc in absurd (omega arith)
 pub at_most_one : (t closed l m : List ℕ) (a r : ℕ) → Looked t closed a l m r → r ≤ 1
 at_most_one t closed l m a r o = ⊎_elim (λ x. omega (arith, x.0)) (λ x. omega (arith, x.0)) o
 
-pub sum-falls : {net : Net} {t closed l m : List ℕ} {goal i r : ℕ} {back : Bool} → Passed net t closed goal back i l m r → (r ≡ 0 → ⊥) → sum_in net.nodes m < sum_in net.nodes l
+pub sum-falls : {net : Net} {t closed l m : List ℕ} {goal a r : ℕ} → Passed net t closed goal a l m r → (r ≡ 0 → ⊥) → sum_in net.nodes m < sum_in net.nodes l
 sum-falls p h = ⊎_elim (λ o. absurd (h o.0)) (λ o. o.1) p.outcome

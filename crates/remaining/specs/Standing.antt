@@ -1,6 +1,6 @@
 -- The distances to go in the working room.
-use Rattle.std.specs.Prelude.{◌≡◌, ◌≢◌, ◌⊎◌, Bool, true, cond, List, ℕ, ◌+◌, ◌-◌, ◌*◌, ◌≤◌, ◌<◌, ltb, length}
-use Rattle.table.specs.Table.{records, from_at, to_at, len_at, is_open_at}
+use Rattle.std.specs.Prelude.{◌≡◌, ◌≢◌, ◌⊎◌, true, cond, List, ℕ, ◌+◌, ◌*◌, ◌≤◌, ◌<◌, ltb, length}
+use Rattle.table.specs.Table.{from_at, to_at, len_at, is_open_at}
 use Rattle.working_room.specs.Field.{room_bytes, long_at, put_long, Within}
 use Rattle.net.specs.Net.{Net}
 use Rattle.variety.specs.Deeper.{ToGo}
@@ -36,27 +36,19 @@ pub record Begun (n goal : ℕ) (l m : List ℕ) : Type 0 where
   pub at-goal : long_at field m goal ≡ 0
   pub fars : (v : ℕ) → v < n → v ≢ goal → long_at field m v ≡ far
 
--- Arc a, where it is open, brings the node that it leaves no nearer.
-abbrev pub Relaxed : List ℕ → List ℕ → List ℕ → ℕ → Type 0
-Relaxed t closed l a = is_open_at closed a ≡ true → long_at field l (from_at t a) ≤ long_at field l (to_at t a) + len_at t a
-
 -- Arc a, looked at: r is 1 where it lowered the node that it leaves, and else 0.
 abbrev pub Looked : List ℕ → List ℕ → ℕ → List ℕ → List ℕ → ℕ → Type 0
 Looked t closed a l m r =
-    ((r ≡ 0) × (m ≡ l) × Relaxed t closed l a)
+    ((r ≡ 0) × (m ≡ l) × (is_open_at closed a ≡ true → long_at field l (from_at t a) ≤ long_at field l (to_at t a) + len_at t a))
     ⊎ ((r ≡ 1) × (is_open_at closed a ≡ true) × (long_at field l (to_at t a) + len_at t a < long_at field l (from_at t a))
     × (m ≡ put_long field l (from_at t a) (long_at field l (to_at t a) + len_at t a)))
 
--- The arc that is looked at after i others, of n: from the first on, or back from the last.
-unfoldable pub in_turn : Bool → ℕ → ℕ → ℕ
-in_turn back n i = cond back (n - 1 - i) i
-
--- So many arcs were looked at, forth or back: none lowered a node, or some did and the sum has fallen.
-pub record Passed (net : Net) (t closed : List ℕ) (goal : ℕ) (back : Bool) (looked : ℕ) (l m : List ℕ) (r : ℕ) : Type 0 where
+-- The arcs below a were looked at: none lowered a node, or some did and the sum has fallen.
+pub record Passed (net : Net) (t closed : List ℕ) (goal a : ℕ) (l m : List ℕ) (r : ℕ) : Type 0 where
   pub within : Within field 8 l m
   pub going : Going net goal far (go_in net.nodes m)
-  pub few : r ≤ looked
-  pub outcome : ((r ≡ 0) × (m ≡ l) × ((i : ℕ) → i < looked → Relaxed t closed l (in_turn back (records t) i)))
+  pub few : r ≤ a
+  pub outcome : ((r ≡ 0) × (m ≡ l) × ((b : ℕ) → b < a → is_open_at closed b ≡ true → long_at field l (from_at t b) ≤ long_at field l (to_at t b) + len_at t b))
       ⊎ ((0 < r) × (sum_in net.nodes m < sum_in net.nodes l))
 
 -- What is left in the end.

@@ -1,11 +1,13 @@
-// The distances of all nodes to the goal, without a second table: arcs looked at, forth and back in
-// turn, until nothing changes.
+// The distances of all nodes to the goal, without a second table: arcs looked at until nothing
+// changes.
+#![tactic(auto)]
+
 ghost use Rattle.std.specs.Prelude.{◌≡◌, ℕ, ◌≤◌, ◌<◌};
 ghost use Rattle.table.specs.Table.{records, net_of};
 ghost use Rattle.table.specs.Fault.{table_fault, good};
 ghost use Rattle.remaining.specs.Going.{Going};
 ghost use Rattle.remaining.specs.Standing.{far, go_in, Roomy, Cleared, Begun, Looked};
-ghost use Rattle.remaining.specs.Standing.{in_turn, Passed, Settled};
+ghost use Rattle.remaining.specs.Standing.{Passed, Settled};
 
 // Where a node's distance stands in its record, and what stands for no way to go.
 pub const DISTANCE: usize = 8;
@@ -53,48 +55,34 @@ fn look(table: &[u8], closed: &[u8], nodes: u32, room: &mut [u8], a: usize) -> u
     1
 }
 
-// The arc that is looked at after i others, of n: from the first on, or back from the last.
-fn in_turn(back: bool, n: usize, i: usize) -> usize
-    requires { i < n }
-    ensures { result ≡ in_turn back n i }
-{
-    if back {
-        return n - 1 - i;
-    }
-    i
-}
-
-// Looks at every arc once, forth or back: how many brought a node nearer.
-fn pass(table: &[u8], closed: &[u8], nodes: u32, goal: u32, room: &mut [u8], back: bool) -> usize
+// Looks at every arc once: how many brought a node nearer.
+fn pass(table: &[u8], closed: &[u8], nodes: u32, goal: u32, room: &mut [u8]) -> usize
     requires { (table_fault nodes table.now ≡ good) × (Roomy nodes room.old)
         × (Going (net_of nodes table.now closed.now) goal far (go_in nodes room.old)) }
     ensures { Passed (net_of nodes table.now closed.now)
-        table.now closed.now goal back (records table.now)
+        table.now closed.now goal (records table.now)
         room.old room.new result }
 {
     let end = table.len() / table::arc::RECORD;
     let mut nearer = 0;
-    let mut looked = 0;
-    while looked < end {
-        nearer += look(table, closed, nodes, room, in_turn(back, end, looked));
-        looked += 1;
+    let mut a = 0;
+    while a < end {
+        nearer += look(table, closed, nodes, room, a);
+        a += 1;
     }
     nearer
 }
 
-// The distances of all nodes to the goal, over the arcs that are not closed. A way whose nodes rise
-// settles in one pass back, and one whose nodes fall in one pass forth.
+// The distances of all nodes to the goal, over the arcs that are not closed.
 pub fn distances(table: &[u8], closed: &[u8], nodes: u32, goal: u32, room: &mut [u8])
     requires { (table_fault nodes table.now ≡ good) × (Roomy nodes room.old) × (goal < nodes) }
     ensures { Settled (net_of nodes table.now closed.now) goal
         room.old room.new }
 {
     start(room, nodes as usize, goal as usize);
-    let mut back = false;
     loop {
-        if pass(table, closed, nodes, goal, room, back) == 0 {
+        if pass(table, closed, nodes, goal, room) == 0 {
             return;
         }
-        back = !back;
     }
 }

@@ -1,5 +1,7 @@
 // A road file read byte by byte. The reader is passed by value and keeps no text, so that a file may
 // come in parts.
+#![tactic(auto)]
+
 ghost use Rattle.std.specs.Prelude.{◌≡◌, ◌≤◌};
 ghost use Rattle.road_line.specs.Scan.{read_of};
 ghost use Rattle.road_file.specs.File.{next_line, unfed};
@@ -15,7 +17,7 @@ const MOST: u32 = 4294967295;
 
 // The line that has not ended; how many lines and arcs there were; the numbers of the `p` line; the
 // last arc, with nodes from 0; the first line that is not permitted, or 0.
-#[derive(Drop)]
+#[derive(Clone, Copy)]
 pub struct Reader {
     pub scan: Scan,
     pub lines: u32,

@@ -11,7 +11,6 @@ use lib.ListN.{length, get_or, take, drop, length-append}
 use lib.Seq.{take_at, drop_at}
 use Rattle.lists.specs.Index.{tab}
 use Rattle.lists.proofs.IndexLaws.{get_or-tab, tab-cong}
-use Rattle.words.specs.Part.{slot}
 use Rattle.words.specs.Number.{num, bytes_of}
 use Rattle.words.proofs.BytesLaws.{num-bytes}
 use Rattle.net.specs.Net.{Arc}
@@ -57,7 +56,7 @@ rows_long z i [] m = absurd (Memᴰ.not-nil m)
 rows_long z i (x ∷ xs) m = ⊎_elim (λ e. ap length e ∙ length-placed i x) (λ k. rows_long z (i + 1) xs k) (Memᴰ.cases_cons m)
 
 rows-from : (i : ℕ) (xs : List Arc) (l : List ℕ) → rows_in (length xs) (placed_from i xs ++ l) ≡ placed_rows i xs
-unfolding placed_from placed_rows slot
+unfolding placed_from placed_rows row_at
 rows-from i [] l = refl
 rows-from i (x ∷ xs) l =
     let r = placed_from (i + 1) xs ++ l in

@@ -11,12 +11,10 @@ use Prim.Native.Nat.{ℕ, zero, suc, ◌+◌, ◌*◌, ◌%◌, ◌≤◌, ◌<�
 use native.Mathlib.Omega.{arith}
 use lib.Dec.{ltb, leb, eqb}
 use lib.ListN.{length}
-use lib.Seq.{drop_at}
 use borrow.Author.Tests.{eqb-true, eq-eqb, ne_eqb, le-ltb, not-false}
 use Rattle.lists.proofs.Cases.{order}
 use Rattle.lists.proofs.IndexLaws.{first_below}
-use Rattle.words.specs.Number.{num, bytes_of}
-use Rattle.words.proofs.RecordLaws.{num-drop}
+use Rattle.words.specs.Number.{bytes_of}
 use Rattle.words.proofs.BytesLaws.{num-bytes}
 use Rattle.net.specs.Limits.{most_nodes, most_arcs}
 use Rattle.net.specs.Net.{Arc, arc}

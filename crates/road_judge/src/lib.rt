@@ -1,5 +1,7 @@
 // The faults of a road file's arcs, found from its text: which record of the table made is the
 // lowest faulty one, and what its number is after ordering.
+#![tactic(auto)]
+
 ghost use Rattle.std.specs.Prelude.{◌≡◌};
 ghost use Rattle.road_file.specs.File.{unfed, feed};
 ghost use Rattle.road_file.specs.Reader.{reader_of};
@@ -10,7 +12,7 @@ ghost use Rattle.road_judge.specs.Judged.{last_by, pick_next, stands_by, stands_
 use road_file::Reader;
 
 // The fault, or 0; the start node of the faulty arc, and its place in the file.
-#[derive(Drop)]
+#[derive(Clone, Copy)]
 pub struct Judged {
     pub fault: u32,
     pub start: u32,
@@ -18,7 +20,7 @@ pub struct Judged {
 }
 
 // A text read whole, and its faulty arc.
-#[derive(Drop)]
+#[derive(Clone, Copy)]
 pub struct Found {
     pub reader: Reader,
     pub judged: Judged,

@@ -1,5 +1,7 @@
 // One line of a road file, scanned byte by byte. The state is passed by value and holds no bytes
 // of the line, so that a text may come in parts and a comment may be of any length.
+#![tactic(auto)]
+
 ghost use Rattle.std.specs.Prelude.{◌≡◌, true, ◌&&◌, ◌<◌, eqb, get_or};
 ghost use Rattle.numerals.specs.Decimal.{is_digit};
 ghost use Rattle.road_line.specs.Line.{arc_with};
@@ -28,7 +30,7 @@ const OTHER: u8 = 4;
 
 // The state after some bytes of a line: what it may yet be, how many bytes of its start stand, how
 // many numbers follow the one in hand, whether that has a digit, its value, and the two before it.
-#[derive(Drop)]
+#[derive(Clone, Copy)]
 pub struct Scan {
     pub kind: u8,
     pub at: u8,
@@ -40,7 +42,7 @@ pub struct Scan {
 }
 
 // What a line is: nodes and arcs; tail, head and length.
-#[derive(Drop)]
+#[derive(Clone, Copy)]
 pub enum Read {
     Comment,
     Sizes(u32, u32),

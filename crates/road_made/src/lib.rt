@@ -1,9 +1,11 @@
 // How a call that makes a table or a text ended, and the same as numbers.
+#![tactic(auto)]
+
 ghost use Rattle.std.specs.Prelude.{◌≡◌};
 ghost use Rattle.road_made.specs.Made.{numbers_of};
 
 // How it ended.
-#[derive(Drop)]
+#[derive(Clone, Copy)]
 pub enum Made {
     // Its bytes, and the node count of a table; a text has none.
     Done(usize, u32),
@@ -14,7 +16,7 @@ pub enum Made {
 // For callers that can be handed no enum: outcome, the number beside it, the bytes made, and the node
 // count of a table.
 #[repr(C)]
-#[derive(Drop)]
+#[derive(Clone, Copy)]
 pub struct MadeNumbers {
     pub outcome: u32,
     pub number: u32,

@@ -9,7 +9,7 @@ use native.Mathlib.Omega.{arith}
 use lib.Dec.{leb, ltb}
 use borrow.Author.Tests.{le-leb, lt-leb, lt-ltb, le-ltb, eq-eqb, ne_eqb}
 use Rattle.lists.specs.Tests.{lex}
-use Rattle.lists.proofs.Cases.{order, three_ways}
+use Rattle.lists.proofs.Cases.{three_ways}
 use Rattle.words.specs.Number.{num}
 use Rattle.net.specs.Net.{Arc}
 use Rattle.road_sort.specs.Sorted.{start_of, place_of, row_before, row_put, rows_sorted}

@@ -20,7 +20,7 @@ use Rattle.net.specs.Limits.{most_nodes, most_arcs}
 use Rattle.road_order.specs.Ordered.{ordered}
 use Rattle.road_order.specs.Lowest.{Pick, rank}
 use Rattle.road_order.proofs.LowestLaws.{length-ordered}
-use Rattle.road_file.specs.File.{malformed, roads, roads_in, unfed, feed}
+use Rattle.road_file.specs.File.{roads_in, unfed, feed}
 use Rattle.road_file.specs.Reader.{reader_of, wrong_by}
 use Rattle.road_file.proofs.EndLaws.{ended-good, ended-wrong}
 use Rattle.road_file.proofs.SmallLaws.{said-small}

@@ -1,4 +1,6 @@
 // A road file read into a lent table. The text is judged whole before the first byte is written.
+#![tactic(auto)]
+
 ghost use Rattle.std.specs.Prelude.{◌≡◌};
 ghost use Rattle.table.specs.Fault.{table_fault};
 ghost use Rattle.road_file.specs.File.{unfed, feed};

@@ -1,4 +1,6 @@
 // The road file of a table, written into a lent buffer.
+#![tactic(auto)]
+
 ghost use Rattle.std.specs.Prelude.{◌≡◌, ◌+◌, ◌≤◌, ◌<◌, length};
 ghost use Rattle.net.specs.Limits.{most_arcs};
 ghost use Rattle.text_put.specs.Put.{Appended};

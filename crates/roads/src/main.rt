@@ -1,11 +1,14 @@
 // Road files and road tables, for the shell: with one argument NODES a road table of so many nodes
 // comes from standard input and goes as a road file to standard output; with no argument, a road
 // file as a road table.
+#![tactic(auto)]
+
 mod shell;
 mod to_file;
 mod to_table;
 
 use numerals::Numeral;
+use std::env::{Env, FillError};
 
 // The node count that the argument is.
 fn with_nodes(word: &[u8]) {
@@ -21,12 +24,12 @@ fn with_nodes(word: &[u8]) {
     }
 }
 
-fn main() {
-    if os::arg_count() < 2 {
-        to_table::run();
-    } else {
-        let mut word = [0u8; 16];
-        let n = os::arg(1, &mut word);
-        with_nodes(&word[..n]);
+// An argument of more than 16 bytes is read as an empty one.
+fn main(rt: HostRuntime) {
+    let mut word = [0u8; 16];
+    match rt.arg(1, &mut word) {
+        Ok(n) => with_nodes(&word[..n]),
+        Err(FillError::TooLong) => with_nodes(&[]),
+        Err(FillError::NotPresent) => to_table::run(),
     }
 }

@@ -73,6 +73,7 @@ slot-formed w p h = arcs-formed p (replicate (w - length p) no_number) h (formed
 -- ---- the arcs of a chain are the net's
 
 pub chain-arcs : (net : Net) (s : ℕ) (p : List ℕ) → T (chain net s p) → (a : ℕ) → Memᴰ a p → a < length net.arcs
+chain-arcs net s [] h a m = elim m [ ]
 chain-arcs net s (b ∷ p) h a (Memᴰ.head e) = subst (λ x. x < length net.arcs) (sym e) (leaves-e net s b (chain-cons net s b p h).0).is-arc
 chain-arcs net s (b ∷ p) h a (Memᴰ.tail m) = chain-arcs net (arc net.arcs b).to p (chain-cons net s b p h).1 a m
 

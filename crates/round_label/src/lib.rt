@@ -1,5 +1,7 @@
 // The labels of a search: the first one, and a candidate taken up as the next, with its place in its
 // list and its cursor set.
+#![tactic(auto)]
+
 ghost use Rattle.std.specs.Prelude.{◌≡◌, ◌+◌, ◌*◌, ◌≤◌, ◌<◌, length};
 ghost use Rattle.net.specs.Limits.{most_labels};
 ghost use Rattle.table.specs.Table.{records, arcs_of};
@@ -18,7 +20,7 @@ use search_ask::{Ask, Candidate};
 
 // How many labels are taken up, the candidate last looked at, the label whose candidate is the
 // first of all, and the stage.
-#[derive(Drop)]
+#[derive(Clone, Copy)]
 pub struct State {
     pub n: usize,
     pub last: Candidate,

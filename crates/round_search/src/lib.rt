@@ -1,4 +1,6 @@
 // The whole search of a round: its turns, after which nothing of their work is left.
+#![tactic(auto)]
+
 ghost use Rattle.std.specs.Prelude.{◌≡◌, ◌≢◌, length};
 ghost use Rattle.search_ask.specs.Ask.{width, query_for};
 ghost use Rattle.search_ask.specs.Earlier.{earlier_of};

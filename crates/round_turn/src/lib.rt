@@ -1,6 +1,8 @@
 // The turns of a search. Each label has its own next candidate, and the tree over the labels has
 // the label whose candidate is the first of all. A turn looks at that one: it is dropped if a test
 // fails, and else it is taken up as the next label.
+#![tactic(auto)]
+
 ghost use Rattle.std.specs.Prelude.{◌≡◌, ◌≢◌, length};
 ghost use Rattle.table.specs.Table.{records};
 ghost use Rattle.search_ask.specs.Ask.{width, net_for, query_for, last_in};

@@ -1,16 +1,14 @@
 -- Word by word: what is marked of the words from i on is the part of word i and what is marked of those after it. Where the marks are those of a route, it is what the two
 -- share.
-use mathlib.Core.Path.{◌≡◌, refl, sym, ap, ◌∙◌}
-use mathlib.Core.Logic.{◌≢◌, ◌⊎◌, inl, inr, ⊎_elim}
+use mathlib.Core.Path.{◌≡◌, refl, ap, ◌∙◌}
+use mathlib.Core.Logic.{◌≢◌}
 use mathlib.Core.Bool.{Bool, true, false, cond}
 use mathlib.Core.List.{List, [], ◌∷◌, Memᴰ}
-use Prim.Native.Nat.{ℕ, ◌+◌, ◌*◌, ◌≤◌, ◌<◌}
+use Prim.Native.Nat.{ℕ, ◌+◌, ◌≤◌, ◌<◌}
 use native.Mathlib.Omega.{arith}
 use lib.ListN.{length, get_or, drop}
-use lib.Dec.{eqb}
 use borrow.Author.Tests.{eq-eqb, ne_eqb}
 use Rattle.lists.specs.Tests.{has, keep, cons_if}
-use Rattle.lists.proofs.Cases.{cases}
 use Rattle.net.specs.Route.{length_of}
 use Rattle.net.specs.Limits.{most_length}
 use Rattle.table.specs.Table.{records, from_at, len_at, arcs_of}

@@ -24,7 +24,7 @@ use Rattle.search_ask.specs.Earlier.{route_in}
 use Rattle.remaining.specs.Standing.{Roomy}
 use Rattle.remaining.proofs.StandingLaws.{from_in}
 use Rattle.route_list.proofs.WordLaws.{route-step}
-use Rattle.route_apart.specs.Marks.{mark_field, marks, Marked, Unmarked, StartsApart, put_marks}
+use Rattle.route_apart.specs.Marks.{mark_field, Marked, Unmarked, StartsApart, put_marks}
 
 -- ---- word by word
 

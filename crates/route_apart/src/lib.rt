@@ -1,4 +1,6 @@
 // What two routes share, by marks in the working room, and how dissimilar they are.
+#![tactic(auto)]
+
 ghost use Rattle.std.specs.Prelude.{◌≡◌, cond, ◌+◌, ◌*◌, ◌≤◌, ◌<◌, length};
 ghost use Rattle.net.specs.Limits.{most_nodes, most_length};
 ghost use Rattle.table.specs.Table.{records};

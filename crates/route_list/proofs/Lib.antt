@@ -1,4 +1,4 @@
 pub mod WordLaws
-pub mod SlotLaws
-pub mod SwapLaws
-pub mod ListLaws
+pub mod ShiftLaws
+pub mod PlaceLaws
+pub mod MoveLaws

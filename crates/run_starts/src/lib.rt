@@ -1,6 +1,8 @@
 // Where the arcs of a node start in a good table, by halves. It is looked for about where it would
 // stand if every node had as many, and only where it is not there in the whole table; or first where
 // it was found before.
+#![tactic(auto)]
+
 ghost use Rattle.std.specs.Prelude.{◌≡◌, false, ◌⊎◌, ◌≤◌, ◌<◌, length};
 ghost use Rattle.table.specs.Table.{records, from_at};
 ghost use Rattle.table.specs.Fault.{table_fault, good};

@@ -1,5 +1,7 @@
 // A label's own next candidate: of its chain with an arc more, the first after the one last looked
 // at that fails no test.
+#![tactic(auto)]
+
 ghost use Rattle.std.specs.Prelude.{◌≡◌, not, true, [], ◌+◌, ◌≤◌, ◌<◌, T, length};
 ghost use Rattle.net.specs.Route.{leaves};
 ghost use Rattle.net.specs.Limits.{most_arcs};
@@ -21,7 +23,7 @@ const LONG: usize = 32;
 
 // A label of the first n, and the arc of its candidate that was last looked at; `NO_ARC` where
 // there is none of its own.
-#[derive(Drop)]
+#[derive(Clone, Copy)]
 pub struct Place {
     pub n: usize,
     pub label: usize,

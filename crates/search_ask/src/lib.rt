@@ -1,4 +1,6 @@
 // What a search is asked, and its candidates.
+#![tactic(auto)]
+
 ghost use Rattle.std.specs.Prelude.{◌≡◌, ◌+◌, ◌-◌, ◌*◌, ◌≤◌, length};
 ghost use Rattle.words.specs.Part.{slot};
 ghost use Rattle.net.specs.Route.{length_of};
@@ -6,7 +8,7 @@ ghost use Rattle.table.specs.Table.{arcs_of};
 ghost use Rattle.search_ask.specs.Ask.{width, Searching, Among, chain_of};
 
 // What is asked of a round, beside the table.
-#[derive(Drop)]
+#[derive(Clone, Copy)]
 pub struct Ask {
     pub nodes: u32,
     pub s: u32,
@@ -16,7 +18,7 @@ pub struct Ask {
 }
 
 // A label and an arc that leaves its end; `NO_ARC` where there is none.
-#[derive(Drop)]
+#[derive(Clone, Copy)]
 pub struct Candidate {
     pub label: usize,
     pub arc: usize,

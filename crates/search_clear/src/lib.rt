@@ -1,4 +1,6 @@
 // The working bytes of labels made zero again.
+#![tactic(auto)]
+
 ghost use Rattle.std.specs.Prelude.{◌≡◌, ◌*◌, ◌≤◌, length};
 ghost use Rattle.labels.specs.Field.{label_bytes};
 ghost use Rattle.search_clear.specs.Clear.{clear_work};

@@ -1,5 +1,7 @@
 // What the earlier answers drive: by their slots, and by a small filter that spares most looks into
 // them.
+#![tactic(auto)]
+
 pub mod marks;
 
 ghost use Rattle.std.specs.Prelude.{◌≡◌, [], ◌∷◌, ◌≢◌, ◌≤◌, ◌<◌, eqb};

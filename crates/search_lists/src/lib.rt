@@ -1,6 +1,8 @@
 // The labels at each node, in a list, the newest first: of a node's labels those that no newer one
 // of them covers. The heads stand in the round's own slot of the route area, a word for each node
 // but s, whose first label covers everything that comes back to it.
+#![tactic(auto)]
+
 mod head;
 mod link;
 mod list;

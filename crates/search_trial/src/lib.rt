@@ -1,5 +1,7 @@
 // The two tests on a candidate, by its overlaps and those that the labels hold: it is within the
 // threshold of every earlier answer, and no label at its end covers it.
+#![tactic(auto)]
+
 pub mod overlap;
 
 ghost use Rattle.std.specs.Prelude.{◌≡◌, ◌≢◌, ◌<◌, length};

@@ -1,5 +1,7 @@
 // The second table of 02.9: the arcs of the first, bytes and all, in order of end node and then arc
 // number. Judged and walked without room of its own.
+#![tactic(auto)]
+
 mod find;
 mod judge;
 

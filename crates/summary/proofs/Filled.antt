@@ -2,7 +2,7 @@
 -- `filled t i ys` is ys after i stores, one to each place from 0: there are as many records as before (`length-filled`).
 -- By induction on the stores these are the first i records of t, and then the rest of ys as it was (`filled_is`).
 use mathlib.Core.Path.{◌≡◌, refl, sym, ◌∙◌, ap}
-use Prim.Native.Nat.{ℕ, zero, suc, ◌+◌, ◌≤◌}
+use Prim.Native.Nat.{ℕ, zero, suc, ◌+◌, ◌<◌, ◌≤◌}
 use native.Mathlib.Nat.{add-zero, add-suc, le_of_lt}
 use mathlib.Core.List.{List, [], ◌∷◌, ◌++◌}
 use lib.ListN.{length, set, drop, length-set, length-append}
@@ -32,3 +32,11 @@ filled_is t (suc i) ys h =
     ap (λ (l : List Summary). set l i (record_at t i)) (filled_is t i ys (le_of_lt h) ∙ ap (λ (r : List Summary). firsts t i ++ r) (drop-cons ys i (record_at t i) h))
     ∙ set_at (firsts t i) _ (drop (suc i) ys) (record_at t i) i (length-firsts t i)
     ∙ sym (append_snoc (firsts t i) (record_at t i) (drop (suc i) ys))
+
+-- One more turn of the loop on the slice as the contract writes it.
+pub written_step : (t : Sums) (i : ℕ) (ys : List Summary) → i < length ys → set (written t i ys) i (record_at t i) ≡ written t (i + 1) ys
+written_step t i ys h =
+    ap (λ (l : List Summary). set l i (record_at t i)) (ap (λ (r : List Summary). firsts t i ++ r) (drop-cons ys i (record_at t i) h))
+    ∙ set_at (firsts t i) _ (drop (suc i) ys) (record_at t i) i (length-firsts t i)
+    ∙ sym (append_snoc (firsts t i) (record_at t i) (drop (suc i) ys))
+    ∙ ap (λ (k : ℕ). written t k ys) (sym (one_more i))

@@ -1,4 +1,6 @@
 // The summaries of a query: by value, and written to a lent slice of records.
+#![tactic(auto)]
+
 ghost use Rattle.std.specs.Prelude.{◌≡◌, ◌<◌, ◌≤◌, length};
 ghost use Rattle.net.specs.Limits.{most_routes};
 ghost use Rattle.summary.specs.Sums.{record_at, set_entry, written};
@@ -8,7 +10,7 @@ pub const MOST_ROUTES: usize = 12;
 
 // Length, number of arcs and label count of one round.
 #[repr(C)]
-#[derive(Drop)]
+#[derive(Clone, Copy)]
 pub struct Summary {
     pub length: u64,
     pub arcs: u64,
@@ -16,7 +18,7 @@ pub struct Summary {
 }
 
 // The summaries of all rounds by value: a row of numbers for each field.
-#[derive(Drop)]
+#[derive(Clone, Copy)]
 pub struct Sums {
     pub length: [u64; MOST_ROUTES],
     pub arcs: [u16; MOST_ROUTES],

@@ -1,4 +1,6 @@
 // The arcs of a node told by their place in a table: for callers that can be handed no reference.
+#![tactic(auto)]
+
 ghost use Rattle.std.specs.Prelude.{◌≡◌, false, ◌<◌};
 ghost use Rattle.table.specs.Fault.{table_fault, good};
 ghost use Rattle.second.specs.Second.{wrong_second};

@@ -1,5 +1,7 @@
 // Guarded reads, stores and sums for the programs that test the library: an index past the end
 // reads 0 and stores nothing, and a sum or a product of numbers past its bound stays at a bound.
+#![tactic(auto)]
+
 ghost use Rattle.std.specs.Prelude.{◌≡◌, cond, ◌-◌, get_or, set};
 ghost use Rattle.test_cells.specs.Bounded.{sum, product, part};
 

@@ -1,9 +1,10 @@
 // Queries and tables. A number of a case is settled by the number of the case and of the draw.
-use crate::own;
-use test_draw::{cells, draw};
+use crate::cells;
 
 // The draws of a case: those of the query, from FIRST on those of each arc, and from PAIR on those
 // of two arcs of one road.
+const DRAWS: usize = 256;
+
 const FIRST: usize = 32;
 
 const OF_ARC: usize = 16;
@@ -37,23 +38,49 @@ const ARC_NUMBERS: usize = 7;
 
 const ROAD_MANNERS: usize = 8;
 
+fn next(x: usize) -> usize {
+    let y = x % 2147483648;
+    (y * 1103515245 + 12345) % 2147483648
+}
+
+// The middle of the square: draws that only `next` parts would stand in a fixed relation.
+fn middle(x: usize) -> usize {
+    let y = x % 2147483648;
+    test_cells::mul(y, y) / 32768 % 2147483648
+}
+
+fn rest(x: usize, n: usize) -> usize {
+    if n == 0 { 0 } else { x % n }
+}
+
+// A number below n.
+fn below(case: usize, draw: usize, n: usize) -> usize {
+    let x = test_cells::place(case, DRAWS, draw);
+    rest(middle(next(middle(next(x)))) / 65536, n)
+}
+
+// One time in n.
+fn once_in(case: usize, draw: usize, n: usize) -> bool {
+    below(case, draw, n) == 0
+}
+
 fn nodes(case: usize) -> usize {
-    let few = draw::below(case, 1, 2);
-    let more = test_cells::add(draw::below(case, 1, 4), 3);
-    test_cells::pick(draw::once_in(case, 0, 60), few, more)
+    let few = below(case, 1, 2);
+    let more = test_cells::add(below(case, 1, 4), 3);
+    test_cells::pick(once_in(case, 0, 60), few, more)
 }
 
 fn records(case: usize) -> usize {
-    let few = draw::below(case, 3, 6);
-    let more = test_cells::add(draw::below(case, 3, 7), 6);
-    test_cells::pick(draw::once_in(case, 2, 20), few, more)
+    let few = below(case, 3, 6);
+    let more = test_cells::add(below(case, 3, 7), 6);
+    test_cells::pick(once_in(case, 2, 20), few, more)
 }
 
 fn routes(case: usize) -> usize {
-    let wrong = test_cells::mul(draw::below(case, 5, 2), 13);
-    let any = test_cells::add(draw::below(case, 5, 12), 1);
-    let drawn = test_cells::pick(draw::once_in(case, 6, 40), wrong, any);
-    test_cells::pick(draw::once_in(case, 4, 2), 12, drawn)
+    let wrong = test_cells::mul(below(case, 5, 2), 13);
+    let any = test_cells::add(below(case, 5, 12), 1);
+    let drawn = test_cells::pick(once_in(case, 6, 40), wrong, any);
+    test_cells::pick(once_in(case, 4, 2), 12, drawn)
 }
 
 // Does the case have the next of the thresholds 0/1000 to 999/1000, in turn?
@@ -62,60 +89,56 @@ pub(crate) fn in_turn(case: usize) -> bool {
 }
 
 fn denominator(case: usize) -> usize {
-    let wrong = test_cells::mul(draw::below(case, 9, 2), 1001);
-    let most = test_cells::pick(draw::once_in(case, 8, 2), 5, 1000);
-    let any = test_cells::add(draw::below(case, 9, most), 1);
-    let drawn = test_cells::pick(draw::once_in(case, 7, 60), wrong, any);
+    let wrong = test_cells::mul(below(case, 9, 2), 1001);
+    let most = test_cells::pick(once_in(case, 8, 2), 5, 1000);
+    let any = test_cells::add(below(case, 9, most), 1);
+    let drawn = test_cells::pick(once_in(case, 7, 60), wrong, any);
     test_cells::pick(in_turn(case), 1000, drawn)
 }
 
 fn numerator(case: usize) -> usize {
     let b = denominator(case);
-    let last = draw::once_in(case, 11, 3);
-    let any = test_cells::pick(last, test_cells::less_one(b), draw::below(case, 12, b));
-    let drawn = test_cells::pick(draw::once_in(case, 10, 60), b, any);
+    let last = once_in(case, 11, 3);
+    let any = test_cells::pick(last, test_cells::less_one(b), below(case, 12, b));
+    let drawn = test_cells::pick(once_in(case, 10, 60), b, any);
     test_cells::pick(in_turn(case), case / 3 % 1000, drawn)
 }
 
 // Ample room is 64 labels. 65 stands for as many as the query needs, 66 for one less.
 fn room(case: usize) -> usize {
-    let x = draw::below(case, 13, 4);
-    test_cells::pick(x < 3, test_cells::add(x, 64), draw::below(case, 14, 17))
+    let x = below(case, 13, 4);
+    test_cells::pick(x < 3, test_cells::add(x, 64), below(case, 14, 17))
 }
 
 // Another node than v, but for one time in 60.
 fn other(case: usize, draw: usize, v: usize, n: usize) -> usize {
-    let x = draw::below(case, draw, n);
-    let same = draw::once_in(case, test_cells::add(draw, 1), 60);
-    test_cells::pick((x != v) | same, x, draw::rest(test_cells::add(x, 1), n))
+    let x = below(case, draw, n);
+    let same = once_in(case, test_cells::add(draw, 1), 60);
+    test_cells::pick((x != v) | same, x, rest(test_cells::add(x, 1), n))
 }
 
 // Words of the area: those of the slots and some more, but one time in 60 one less.
 fn words(case: usize) -> usize {
     let slots = test_cells::mul(routes(case), test_cells::less_one(nodes(case)));
-    let more = test_cells::add(slots, draw::below(case, 16, 4));
-    test_cells::pick(
-        draw::once_in(case, 15, 60),
-        test_cells::less_one(slots),
-        more,
-    )
+    let more = test_cells::add(slots, below(case, 16, 4));
+    test_cells::pick(once_in(case, 15, 60), test_cells::less_one(slots), more)
 }
 
 // Summaries: twelve, but one time in eight as many as are wanted or one less.
 fn summaries(case: usize) -> usize {
     let k = routes(case);
-    let few = test_cells::pick(draw::once_in(case, 18, 6), test_cells::less_one(k), k);
-    test_cells::pick(draw::once_in(case, 17, 8), few, 12)
+    let few = test_cells::pick(once_in(case, 18, 6), test_cells::less_one(k), k);
+    test_cells::pick(once_in(case, 17, 8), few, 12)
 }
 
 // Table bytes past the last whole record.
 fn odd_bytes(case: usize) -> usize {
-    let some = test_cells::add(draw::below(case, 20, 15), 1);
-    test_cells::pick(draw::once_in(case, 19, 200), some, 0)
+    let some = test_cells::add(below(case, 20, 15), 1);
+    test_cells::pick(once_in(case, 19, 200), some, 0)
 }
 
 fn manner(case: usize) -> usize {
-    let x = draw::below(case, 21, 16);
+    let x = below(case, 21, 16);
     test_cells::pick(x > VALUE, 0, x)
 }
 
@@ -123,7 +146,7 @@ fn manner(case: usize) -> usize {
 fn closure_bytes(case: usize) -> usize {
     let manner = manner(case);
     let arcs = records(case);
-    let x = draw::below(case, 22, 3);
+    let x = below(case, 22, 3);
     let fewer = test_cells::pick(x == 0, test_cells::less_one(arcs), 0);
     let another = test_cells::pick(x == 1, test_cells::add(arcs, 1), fewer);
     let bytes = test_cells::pick(manner == NUMBER, another, arcs);
@@ -132,7 +155,7 @@ fn closure_bytes(case: usize) -> usize {
 
 fn goal(case: usize) -> usize {
     let n = nodes(case);
-    other(case, 24, draw::below(case, 23, n), n)
+    other(case, 24, below(case, 23, n), n)
 }
 
 // Cell i of the case, but for the arcs.
@@ -140,7 +163,7 @@ fn asked(case: usize, i: usize) -> usize {
     match i {
         cells::NODES => nodes(case),
         cells::ARC_COUNT => records(case),
-        cells::START => draw::below(case, 23, nodes(case)),
+        cells::START => below(case, 23, nodes(case)),
         cells::GOAL => goal(case),
         cells::ROUTES => routes(case),
         cells::THRESHOLD_A => numerator(case),
@@ -151,7 +174,7 @@ fn asked(case: usize, i: usize) -> usize {
         cells::ODD_BYTES => odd_bytes(case),
         cells::CLOSURES => manner(case),
         cells::CLOSURE_BYTES => closure_bytes(case),
-        own::ODD_LABEL => draw::below(case, 26, 128),
+        cells::ODD_LABEL => below(case, 26, 128),
         _ => 0,
     }
 }
@@ -160,28 +183,31 @@ fn asked(case: usize, i: usize) -> usize {
 fn start(case: usize, draw: usize, from: usize) -> usize {
     let n = nodes(case);
     let up = test_cells::add(from, 1);
-    let stays = draw::once_in(case, draw, 2) | (up >= n);
-    let any = draw::below(case, test_cells::add(draw, 2), n);
-    let wild = draw::once_in(case, test_cells::add(draw, 1), 150);
+    let stays = once_in(case, draw, 2) | (up >= n);
+    let any = below(case, test_cells::add(draw, 2), n);
+    let wild = once_in(case, test_cells::add(draw, 1), 150);
     test_cells::pick(wild, any, test_cells::pick(stays, from, up))
 }
 
 fn end(case: usize, draw: usize, from: usize) -> usize {
     let n = nodes(case);
     let other = other(case, test_cells::add(draw, 4), from, n);
-    test_cells::pick(draw::once_in(case, test_cells::add(draw, 3), 200), n, other)
+    test_cells::pick(once_in(case, test_cells::add(draw, 3), 200), n, other)
 }
 
 fn length(case: usize, draw: usize) -> usize {
-    let any = test_cells::add(draw::below(case, test_cells::add(draw, 6), 4), 1);
-    let most = draw::once_in(case, test_cells::add(draw, 7), 40);
-    let wrong = test_cells::mul(draw::below(case, test_cells::add(draw, 6), 2), 1000001);
+    let any = test_cells::add(below(case, test_cells::add(draw, 6), 4), 1);
+    let most = once_in(case, test_cells::add(draw, 7), 40);
+    let wrong = test_cells::mul(below(case, test_cells::add(draw, 6), 2), 1000001);
     let right = test_cells::pick(most, 1000000, any);
-    test_cells::pick(
-        draw::once_in(case, test_cells::add(draw, 8), 200),
-        wrong,
-        right,
-    )
+    test_cells::pick(once_in(case, test_cells::add(draw, 8), 200), wrong, right)
+}
+
+// One number for both directions between two nodes.
+fn street(from: usize, to: usize) -> usize {
+    let low = test_cells::pick(from < to, from, to);
+    let high = test_cells::pick(from < to, to, from);
+    test_cells::add(test_cells::place(high, 8, low), 1)
 }
 
 // 1, 2 ^ 8, 2 ^ 16 or 2 ^ 24: numbers that are told apart by all four bytes only.
@@ -194,19 +220,23 @@ fn one_byte(x: usize) -> usize {
     }
 }
 
+// One of the three greatest numbers, or 0.
+fn greatest(x: usize) -> usize {
+    if x == 0 {
+        return 0;
+    }
+    if x < 4 { 4294967296 - x } else { 0 }
+}
+
 // One number for two arcs that are drawn, and 0 for the others.
 fn of_two(case: usize, i: usize) -> usize {
     let arcs = records(case);
-    let drawn = (i == draw::below(case, PAIR, arcs)) | (i == draw::below(case, PAIR + 1, arcs));
-    test_cells::pick(
-        drawn,
-        test_cells::add(draw::below(case, PAIR + 2, 100), 1),
-        0,
-    )
+    let drawn = (i == below(case, PAIR, arcs)) | (i == below(case, PAIR + 1, arcs));
+    test_cells::pick(drawn, test_cells::add(below(case, PAIR + 2, 100), 1), 0)
 }
 
 fn road_manner(case: usize) -> usize {
-    let x = draw::below(case, 30, 12);
+    let x = below(case, 30, 12);
     test_cells::pick(x < ROAD_MANNERS, x, 0)
 }
 
@@ -214,13 +244,13 @@ fn road_manner(case: usize) -> usize {
 fn road(case: usize, i: usize, from: usize, to: usize) -> usize {
     let draw = test_cells::place(i, OF_ARC, FIRST + 9);
     match road_manner(case) {
-        BOTH_SIDES => draw::street(from, to),
+        BOTH_SIDES => street(from, to),
         TWO_ARCS => of_two(case, i),
-        FEW_ROADS => draw::below(case, draw, test_cells::add(draw::below(case, 31, 3), 2)),
-        ONE_ROAD => test_cells::add(draw::below(case, 31, 3), 1),
-        GREATEST => draw::greatest(draw::below(case, draw, 4)),
-        ONE_BYTE => one_byte(draw::below(case, draw, 4)),
-        ARC_NUMBERS => draw::below(case, draw, records(case)),
+        FEW_ROADS => below(case, draw, test_cells::add(below(case, 31, 3), 2)),
+        ONE_ROAD => test_cells::add(below(case, 31, 3), 1),
+        GREATEST => greatest(below(case, draw, 4)),
+        ONE_BYTE => one_byte(below(case, draw, 4)),
+        ARC_NUMBERS => below(case, draw, records(case)),
         _ => 0,
     }
 }
@@ -228,15 +258,11 @@ fn road(case: usize, i: usize, from: usize, to: usize) -> usize {
 // The closure byte of arc i, which starts at `from`.
 fn closure(case: usize, i: usize, from: usize) -> usize {
     let manner = manner(case);
-    let any = draw::once_in(case, test_cells::place(i, OF_ARC, FIRST + 11), manner);
-    let leaves = from == draw::below(case, 27, nodes(case));
+    let any = once_in(case, test_cells::place(i, OF_ARC, FIRST + 11), manner);
+    let leaves = from == below(case, 27, nodes(case));
     let closed = test_cells::pick(manner == ONE_NODE, leaves as usize, any as usize);
-    let wrong = (manner == VALUE) & (i == draw::below(case, 28, records(case)));
-    let byte = test_cells::pick(
-        wrong,
-        test_cells::add(draw::below(case, 29, 254), 2),
-        closed,
-    );
+    let wrong = (manner == VALUE) & (i == below(case, 28, records(case)));
+    let byte = test_cells::pick(wrong, test_cells::add(below(case, 29, 254), 2), closed);
     test_cells::pick(manner > ALL_OPEN, byte, 0)
 }
 
@@ -266,7 +292,7 @@ fn arcs(cells: &mut cells::Cells, case: usize) {
         closed = test_cells::add(closed, closes as usize);
         cells::put(cells, test_cells::add(cells::ARCS, c), number);
     }
-    cells::put(cells, own::CLOSED_ARCS, closed);
+    cells::put(cells, cells::CLOSED_ARCS, closed);
 }
 
 // A query and its table.
@@ -277,4 +303,17 @@ pub(crate) fn case(number: usize) -> cells::Cells {
     }
     arcs(&mut case, number);
     case
+}
+
+// The case with the table of zeros in place of its road numbers.
+pub(crate) fn without_roads(case: cells::Cells) -> cells::Cells {
+    let mut plain = case;
+    for i in 0..cells::MOST_ARCS {
+        cells::put(
+            &mut plain,
+            test_cells::place(i, cells::ARC, cells::ARCS + cells::ROAD),
+            0,
+        );
+    }
+    plain
 }

@@ -1,37 +1,51 @@
 // The lister's answer to a case, and what the library's buffers should hold by it.
-use crate::{library, own};
-use test_draw::{cells, due, told};
+use crate::{cells, library};
 
-fn put_slots(due: &mut cells::Cells, slots: &[usize], words: usize) {
-    let first = due::slot(cells::AREA, 0, 0);
-    for i in 0..words {
-        cells::put(due, test_cells::add(first, i), test_cells::get(slots, i));
+// Word i of the area, where `slots` has `most` words.
+fn word(slots: &[usize], most: usize, i: usize) -> usize {
+    if i < library::AREA_FROM {
+        return library::junk();
+    }
+    let at = i - library::AREA_FROM;
+    test_cells::pick(at < most, test_cells::get(slots, at), library::junk())
+}
+
+fn put_area(due: &mut cells::Cells, slots: &[usize], most: usize) {
+    for i in 0..library::AREA {
+        cells::put(due, test_cells::add(cells::AREA, i), word(slots, most, i));
     }
 }
 
-fn put_sums(due: &mut cells::Cells, sums: &[usize]) {
+// The outcome, the number beside it, the summaries, and that every label byte should be right.
+fn told(told: test_listing::Told, sums: &[usize]) -> cells::Cells {
+    let mut due = [0usize; cells::CELLS];
     for i in 0..36 {
-        cells::put(due, told::place(0, i), test_cells::get(sums, i));
+        cells::put(
+            &mut due,
+            test_cells::add(cells::SUMS, i),
+            test_cells::get(sums, i),
+        );
     }
+    cells::put(&mut due, cells::OUTCOME, told.outcome);
+    cells::put(&mut due, cells::NUMBER, told.number);
+    cells::put(&mut due, cells::LABELS, library::LABELS);
+    due
 }
 
-// Where the rounds are reached: the slots and how many summaries are to be written.
-fn put_rounds(due: &mut cells::Cells, case: &cells::Cells, slots: &[usize]) {
-    put_slots(due, slots, cells::words(case, 0));
-    due[told::WRITTEN] = case[cells::ROUTES];
+// How many words the slots have; none where the rounds are not reached.
+fn words(case: &cells::Cells, due: &cells::Cells) -> usize {
+    let width = test_cells::less_one(cells::get(case, cells::NODES));
+    let words = test_cells::mul(cells::get(case, cells::ROUTES), width);
+    test_cells::pick(cells::reached(due), words, 0)
 }
 
-// What is due, with every label byte right.
 pub(crate) fn answer(case: &cells::Cells) -> cells::Cells {
     let mut slots = [0usize; 80];
     let mut sums = [0usize; 36];
-    let told = test_listing::answer(case, &mut slots, &mut sums);
-    let mut due = due::stays(told.outcome, told.number, cells::BUFFER);
-    due[cells::WORK] = library::LABELS;
-    put_sums(&mut due, &sums);
-    if own::reached(&due) {
-        put_rounds(&mut due, case, &slots);
-    }
+    let a = test_listing::answer(case, &mut slots, &mut sums);
+    let mut due = told(a, &sums);
+    let words = words(case, &due);
+    put_area(&mut due, &slots, words);
     due
 }
 
@@ -39,7 +53,7 @@ pub(crate) fn answer(case: &cells::Cells) -> cells::Cells {
 fn greatest(due: &cells::Cells) -> usize {
     let mut most = 0;
     for j in 0..12 {
-        let count = cells::get(due, told::place(j, 2));
+        let count = cells::get(due, test_cells::place(j, 3, cells::SUMS + 2));
         most = test_cells::pick(most < count, count, most);
     }
     most

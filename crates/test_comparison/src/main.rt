@@ -1,13 +1,14 @@
 // The library against the lister, on tables and queries from a fixed generator and on damaged
 // texts: how many there were, how many agreed, how often each outcome occurred, and the first
 // difference in full.
+#![tactic(auto)]
+
+mod cells;
 mod draw;
 mod library;
 mod lister;
-mod own;
+mod report;
 mod texts;
-
-use test_draw::{cells, report};
 
 const CASES: usize = 6000;
 
@@ -30,43 +31,53 @@ const NUMBERED: usize = 36;
 
 const TOLD_APART: usize = 37;
 
+const UNCOUNTED: usize = 38;
+
+// One more in cell i.
+fn add_one(tally: &mut cells::Cells, i: usize) {
+    let n = cells::get(tally, i);
+    cells::put(tally, i, test_cells::add(n, 1));
+}
+
 // What is due, and whether it was found.
 fn count(tally: &mut cells::Cells, due: &cells::Cells, agreed: bool) {
     let outcome = cells::get(due, cells::OUTCOME);
     let round = test_cells::add(REFUSED, cells::get(due, cells::NUMBER));
-    cells::count(tally, outcome, 1);
-    cells::count(tally, round, (outcome == 11) as usize);
-    cells::count(tally, test_cells::pick(agreed, AGREED, DIFFERENT), 1);
+    add_one(tally, outcome);
+    add_one(tally, test_cells::pick(outcome == 11, round, UNCOUNTED));
+    add_one(tally, test_cells::pick(agreed, AGREED, DIFFERENT));
 }
 
 // What kind of case it is.
 fn count_case(tally: &mut cells::Cells, case: &cells::Cells, reached: bool, in_turn: bool) {
-    let closed = reached & (cells::get(case, own::CLOSED_ARCS) > 0);
+    let closed = reached & (cells::get(case, cells::CLOSED_ARCS) > 0);
     let both = cells::get(case, cells::CLOSURES) == draw::ALL_OPEN;
-    cells::count(tally, CLOSED, closed as usize);
-    cells::count(tally, BOTH, both as usize);
-    cells::count(tally, IN_TURN, in_turn as usize);
+    add_one(tally, test_cells::pick(closed, CLOSED, UNCOUNTED));
+    add_one(tally, test_cells::pick(both, BOTH, UNCOUNTED));
+    add_one(tally, test_cells::pick(in_turn, IN_TURN, UNCOUNTED));
 }
 
 // Where rounds are reached with road numbers: whether an answer or a label count is another than
 // with zeros.
 fn count_roads(tally: &mut cells::Cells, case: cells::Cells, due: &cells::Cells) {
-    let plain = cells::without_roads(case);
-    if !cells::same(&case, &plain) & own::reached(due) {
+    let plain = draw::without_roads(case);
+    if !cells::same(&case, &plain) & cells::reached(due) {
         let other = lister::answer(&plain);
-        cells::count(tally, NUMBERED, 1);
-        let same = cells::same(due, &other);
-        cells::count(tally, TOLD_APART, !same as usize);
+        add_one(tally, NUMBERED);
+        add_one(
+            tally,
+            test_cells::pick(cells::same(due, &other), UNCOUNTED, TOLD_APART),
+        );
     }
 }
 
 // Does the library give what is due, with closures lent or without? The first that differs is
 // printed.
 fn agrees(case: &cells::Cells, lent: bool, due: &cells::Cells, first: bool) -> bool {
-    let got = library::answer(case, lent, own::reached(due));
+    let got = library::answer(case, lent, cells::reached(due));
     let same = cells::same(due, &got);
     if first & !same {
-        report::difference(case, due, &got);
+        report::case(case, due, &got);
     }
     same
 }
@@ -87,7 +98,7 @@ fn one(tally: &mut cells::Cells, number: usize) {
     let due = lister::answer(&case);
     let agreed = agree(&case, &due, cells::get(tally, DIFFERENT) == 0);
     count(tally, &due, agreed);
-    count_case(tally, &case, own::reached(&due), draw::in_turn(number));
+    count_case(tally, &case, cells::reached(&due), draw::in_turn(number));
     count_roads(tally, case, &due);
 }
 

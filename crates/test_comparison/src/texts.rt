@@ -1,4 +1,6 @@
 // A good text, damaged at each byte in turn: the desk program's function against the lister's.
+use crate::report;
+
 const MOST: usize = 64;
 
 // How a byte is damaged: up to DELETED, a byte of each kind stands in its place.
@@ -20,19 +22,12 @@ fn same(a: &[u8], b: &[u8]) -> bool {
     true
 }
 
-fn difference(text: &[u8], due: &[u8], found: &[u8]) {
-    io::write_all(1, b"difference: the text, what is due, what is found\n");
-    io::write_all(1, text);
-    io::write_all(1, due);
-    io::write_all(1, found);
-}
-
 fn held(text: &[u8], due: &[u8], found: &[u8], first: bool) -> bool {
     if same(due, found) {
         return true;
     }
     if first {
-        difference(text, due, found);
+        report::text(text, due, found);
     }
     false
 }

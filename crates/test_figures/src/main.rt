@@ -1,5 +1,7 @@
 // Document 01's figures: of each table its fault; and through the desk program's function, of each
 // text the answer, and the answers to a good text that is damaged at each byte in turn.
+#![tactic(auto)]
+
 mod damage;
 mod tables;
 mod text;

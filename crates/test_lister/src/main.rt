@@ -1,4 +1,5 @@
 // The lister: reads standard input whole, and writes what the definition gives for it.
+#![tactic(auto)]
 
 fn main() {
     let mut text = [0u8; 262144];

@@ -1,5 +1,7 @@
 // The definition followed over a list of all partial routes: a second opinion on small tables, of
 // at most 24 arcs and 1,000 partial routes. More is told by outcome 12.
+#![tactic(auto)]
+
 mod chains;
 mod faults;
 mod results;

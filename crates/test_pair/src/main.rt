@@ -2,82 +2,104 @@
 // ties, road numbers and closures, against all pairs of simple routes; each table once more with one
 // fault or two: how many calls there were, how often each outcome was due, how often the first route
 // was of no use, how many differed, and the first difference in full.
+#![tactic(auto)]
+
+mod cells;
 mod draw;
 mod due;
 mod greedy;
 mod library;
 mod pairs;
-
-use test_draw::{cells, report, routes};
+mod report;
+mod routes;
+mod spoil;
 
 const DRAWS: usize = 5000;
 
 // The tally: each line's number.
-const CALLS: usize = 0;
+const COUNTS: usize = 16;
 
-const SEVERAL: usize = 3;
-
-const CUT_OFF: usize = 4;
-
-const SHORTER: usize = 5;
-
-const ROUTES: usize = 6;
-
-const FULL: usize = 7;
-
-const DIFFERENT: usize = 16;
+const DIFFERENT: usize = COUNTS;
 
 const LINES: usize = DIFFERENT + 1;
 
-// The line of an outcome.
-fn line(outcome: usize) -> usize {
-    match outcome {
+// What is known of a call: the outcome due; where it is not refused the least total, the routes,
+// the rows listed, and the total of the greedy pair.
+type Facts = [usize; 5];
+
+const OUTCOME: usize = 0;
+
+const LEAST: usize = 1;
+
+const ROUTES: usize = 2;
+
+const ROWS: usize = 3;
+
+const GREEDY: usize = 4;
+
+// Count i of a call.
+fn count(facts: &Facts, i: usize) -> usize {
+    let outcome = facts[OUTCOME];
+    let pair = facts[LEAST] > 0;
+    match i {
         0 => 1,
-        21 => 2,
-        13 => 8,
-        2 => 9,
-        3 => 10,
-        4 => 11,
-        6 => 12,
-        15 => 13,
-        7 => 14,
-        _ => 15,
+        1 => (outcome == 0) as usize,
+        2 => (outcome == 21) as usize,
+        3 => ((outcome == 21) & (facts[ROUTES] > 1)) as usize,
+        4 => (pair & (facts[GREEDY] == 0)) as usize,
+        5 => (pair & (facts[GREEDY] > facts[LEAST])) as usize,
+        6 => facts[ROUTES],
+        7 => (facts[ROWS] >= routes::MOST_ROWS) as usize,
+        8 => (outcome == 13) as usize,
+        9 => (outcome == 2) as usize,
+        10 => (outcome == 3) as usize,
+        11 => (outcome == 4) as usize,
+        12 => (outcome == 6) as usize,
+        13 => (outcome == 15) as usize,
+        14 => (outcome == 7) as usize,
+        _ => (outcome == 10) as usize,
     }
 }
 
-fn count_call(tally: &mut cells::Cells, outcome: usize) {
-    cells::count(tally, CALLS, 1);
-    cells::count(tally, line(outcome), 1);
+fn counts(tally: &mut cells::Cells, facts: &Facts) {
+    for i in 0..COUNTS {
+        cells::count(tally, i, count(facts, i));
+    }
 }
 
-// What the routes are like, by the least total and that of the greedy pair, 0 where there is none.
-fn count_routes(tally: &mut cells::Cells, routes: usize, least: usize, greedy: usize) {
-    let pair = least > 0;
-    cells::count(tally, SEVERAL, (!pair & (routes > 1)) as usize);
-    cells::count(tally, CUT_OFF, (pair & (greedy == 0)) as usize);
-    cells::count(tally, SHORTER, (pair & (greedy > least)) as usize);
-    cells::count(tally, ROUTES, routes);
+// Counts a call that gave something else than is due; the first is printed.
+fn compare(tally: &mut cells::Cells, case: &cells::Cells, due: &cells::Cells, got: &cells::Cells) {
+    let same = cells::same(due, got);
+    if !same & (cells::get(tally, DIFFERENT) == 0) {
+        report::difference(case, due, got);
+    }
+    cells::count(tally, DIFFERENT, !same as usize);
 }
 
 // A call that is to be refused.
 fn refused(tally: &mut cells::Cells, case: &cells::Cells, outcome: usize, number: usize) {
     let got = library::answer(case, true);
     let due = due::refusal(outcome, number);
-    report::compare(tally, DIFFERENT, case, &due, &got);
-    count_call(tally, outcome);
+    let mut facts = [0usize; 5];
+    facts[OUTCOME] = outcome;
+    compare(tally, case, &due, &got);
+    counts(tally, &facts);
 }
 
 // A call that is to look for the pair, whose greedy pair has that total.
 fn looked_for(tally: &mut cells::Cells, case: &cells::Cells, greedy: usize) {
     let rows = routes::list(case);
-    let full = routes::listed(&rows) >= routes::MOST_ROWS;
     let least = pairs::least(&rows, case);
     let got = library::answer(case, false);
     let due = due::beside(case, &rows, &got, least);
-    report::compare(tally, DIFFERENT, case, &due, &got);
-    count_call(tally, due[cells::OUTCOME]);
-    count_routes(tally, pairs::routes(&rows, case), least, greedy);
-    cells::count(tally, FULL, full as usize);
+    let mut facts = [0usize; 5];
+    facts[OUTCOME] = cells::get(&due, cells::OUTCOME);
+    facts[LEAST] = least;
+    facts[ROUTES] = pairs::routes(&rows, case);
+    facts[ROWS] = routes::listed(&rows);
+    facts[GREEDY] = greedy;
+    compare(tally, case, &due, &got);
+    counts(tally, &facts);
 }
 
 fn call(tally: &mut cells::Cells, case: cells::Cells) {
@@ -93,7 +115,7 @@ fn call(tally: &mut cells::Cells, case: cells::Cells) {
 fn one(tally: &mut cells::Cells, number: usize) {
     let case = draw::case(number);
     call(tally, case);
-    call(tally, draw::spoilt(case, number));
+    call(tally, spoil::of(case, number));
 }
 
 fn all() -> cells::Cells {
@@ -104,11 +126,31 @@ fn all() -> cells::Cells {
     tally
 }
 
+// Where the line that begins at `from` ends.
+fn line_end(text: &[u8], from: usize) -> usize {
+    for i in from..text.len() {
+        if test_cells::byte(text, i) == b'\n' {
+            return test_cells::add(i, 1);
+        }
+    }
+    text.len()
+}
+
+// Each number of the tally, before its line of the text.
+fn show(tally: &cells::Cells, text: &[u8]) {
+    let mut at = 0;
+    for i in 0..LINES {
+        let end = line_end(text, at);
+        io::print_decimal(1, cells::get(tally, i) as u64);
+        io::write_all(1, test_cells::between(text, at, end));
+        at = end;
+    }
+}
+
 fn main() {
     let tally = all();
-    report::show(
+    show(
         &tally,
-        LINES,
         b" calls
  with outcome 0 due
  with outcome 21 due

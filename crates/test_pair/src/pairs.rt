@@ -1,10 +1,21 @@
 // All pairs of listed routes that share no arc.
-use test_draw::{cells, routes};
+use crate::{cells, routes};
+
+// Is the arc of this step one of the row's?
+fn drives(rows: &routes::Rows, row: usize, step: usize) -> bool {
+    let count = routes::of_row(rows, row, routes::COUNT);
+    for j in 0..count {
+        if routes::step(rows, row, j) == step {
+            return true;
+        }
+    }
+    false
+}
 
 fn disjoint(rows: &routes::Rows, row: usize, other: usize) -> bool {
     let count = routes::of_row(rows, row, routes::COUNT);
     for j in 0..count {
-        if routes::drives(rows, other, routes::step(rows, row, j)) {
+        if drives(rows, other, routes::step(rows, row, j)) {
             return false;
         }
     }
@@ -56,4 +67,27 @@ pub(crate) fn routes(rows: &routes::Rows, case: &cells::Cells) -> usize {
         sum = test_cells::add(sum, routes::arrives(rows, case, row) as usize);
     }
     sum
+}
+
+fn smaller(rows: &routes::Rows, row: usize, other: usize) -> bool {
+    let count = routes::of_row(rows, row, routes::COUNT);
+    for j in 0..count {
+        let here = routes::step(rows, row, j);
+        let there = routes::step(rows, other, j);
+        if here != there {
+            return here < there;
+        }
+    }
+    false
+}
+
+// Rule 3: the length, then the arc numbers from the start.
+pub(crate) fn precedes(rows: &routes::Rows, row: usize, other: usize) -> bool {
+    let here = routes::of_row(rows, row, routes::LENGTH);
+    let there = routes::of_row(rows, other, routes::LENGTH);
+    if here == there {
+        smaller(rows, row, other)
+    } else {
+        here < there
+    }
 }

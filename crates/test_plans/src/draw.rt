@@ -15,7 +15,7 @@ const DRAWS: usize = 256;
 const ARCS: usize = 64;
 
 // A call: its number, its kind, the plan by its index and its number, and what is lent.
-#[derive(Drop)]
+#[derive(Clone, Copy)]
 pub(crate) struct Asked {
     pub call: usize,
     pub kind: usize,

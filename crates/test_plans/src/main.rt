@@ -3,6 +3,8 @@
 // them. After each call the answer, every byte of the file and every word of the slots, with the
 // junk around them, are held against the model's. Prints how many agreed and how often each outcome
 // occurred, and the first difference in full; then the limit of a slot's width.
+#![tactic(auto)]
+
 mod area;
 mod cells;
 mod damage;

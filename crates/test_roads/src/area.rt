@@ -13,7 +13,7 @@ pub(crate) const JUNK: u8 = 85;
 pub(crate) const AMPLE: usize = 400;
 
 // The outcome, the number beside it, the bytes that were made and a table's nodes.
-#[derive(Drop)]
+#[derive(Clone, Copy)]
 pub(crate) struct Answer {
     pub outcome: usize,
     pub number: usize,

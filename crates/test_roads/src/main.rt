@@ -6,6 +6,8 @@
 // what is due by the second writer, or reads it otherwise; after `NAME{TEXT}+` its text is printed.
 // Then the first text, a good one, damaged at each byte in turn: how many such texts there are, and
 // how many are answered alike; the first that is not is printed. Then what the writer refuses.
+#![tactic(auto)]
+
 mod area;
 mod back;
 mod both;

@@ -1,5 +1,7 @@
 // Document 01's figures P2, P5 and P7, round by round: each label before the labels are cleared, by
 // its last arc, the label it extends, and its overlaps with the earlier answers.
+#![tactic(auto)]
+
 mod run;
 mod show;
 

@@ -1,6 +1,5 @@
 // The choice: all sets of ranks are looked at, those of one number in order of their ranks.
-use crate::near;
-use test_draw::{cells, routes};
+use crate::{cells, near, routes};
 
 // The most routes that are chosen from.
 pub(crate) const MOST: usize = 12;
@@ -31,13 +30,23 @@ pub(crate) fn has(set: &Set, rank: usize) -> bool {
     if rank < MOST { set[rank] > 0 } else { false }
 }
 
+// Is the arc on the row?
+fn drives(rows: &routes::Rows, row: usize, arc: usize) -> bool {
+    let count = routes::of_row(rows, row, routes::COUNT);
+    for j in 0..count {
+        if routes::step(rows, row, j) == test_cells::add(arc, 1) {
+            return true;
+        }
+    }
+    false
+}
+
 // The length of the arcs that stand on one of the rows at least, or on both.
 fn length(case: &cells::Cells, rows: &routes::Rows, p: usize, q: usize, both: bool) -> usize {
     let mut sum = 0;
     for arc in 0..cells::MOST_ARCS {
-        let step = test_cells::add(arc, 1);
-        let here = routes::drives(rows, p, step);
-        let there = routes::drives(rows, q, step);
+        let here = drives(rows, p, arc);
+        let there = drives(rows, q, arc);
         let counts = (here & there) | ((here | there) & !both);
         let long = cells::of_arc(case, arc, cells::LONG);
         sum = test_cells::add(sum, test_cells::pick(counts, long, 0));

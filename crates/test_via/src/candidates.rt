@@ -1,7 +1,7 @@
 // The candidates of a case, a row for each node: the first route from s to it, joined to the first
 // route from it to the goal. The first routes are those of test_listing, which lists all simple
 // routes between the two nodes and takes the first by rule 3.
-use test_draw::cells;
+use crate::cells;
 
 pub(crate) const MOST_NODES: usize = 6;
 

@@ -1,7 +1,6 @@
 // The profile: candidates in the order of rule 3, each kept if within the threshold of all kept
 // before, until k.
-use crate::candidates;
-use test_draw::cells;
+use crate::{candidates, cells};
 
 // Rule 3: the length, then the arc numbers from the start.
 fn precedes(list: &cells::Cells, row: usize, other: usize) -> bool {

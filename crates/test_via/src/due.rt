@@ -1,62 +1,84 @@
 // What the library should tell, and how it should leave the buffers.
-use crate::{candidates, choice, order};
-use test_draw::{cells, due, routes, told};
+use crate::{candidates, cells, choice, library, order};
 
 const SECOND: usize = 20;
+
+const NO_WORD: usize = 4294967295;
 
 // Arc j of the route that is kept as number i, as a slot holds it.
 fn step(list: &cells::Cells, i: usize, j: usize) -> usize {
     let cell = test_cells::add(candidates::STEPS, j);
     let step = candidates::of_row(list, choice::kept(list, i), cell);
     let none = (step == 0) | (i >= cells::get(list, candidates::KEPT));
-    test_cells::pick(none, routes::NO_WORD, test_cells::less_one(step))
+    test_cells::pick(none, NO_WORD, test_cells::less_one(step))
 }
 
 // Word i of slots of that width.
-fn word(list: &cells::Cells, width: usize, i: usize) -> usize {
+fn slot(list: &cells::Cells, width: usize, i: usize) -> usize {
     if width == 0 {
-        0
+        NO_WORD
     } else {
         step(list, i / width, i % width)
     }
 }
 
-fn put_slots(due: &mut cells::Cells, case: &cells::Cells, list: &cells::Cells) {
-    let width = cells::width(case);
-    let words = cells::words(case, 0);
-    let first = due::slot(cells::AREA, width, 0);
-    for i in 0..words {
-        cells::put(due, test_cells::add(first, i), word(list, width, i));
+// Word i of the area.
+fn word(case: &cells::Cells, list: &cells::Cells, i: usize) -> usize {
+    let width = test_cells::less_one(cells::get(case, cells::NODES));
+    let most = test_cells::mul(cells::get(case, cells::ROUTES), width);
+    if i < library::AREA_FROM {
+        return library::junk();
+    }
+    let at = i - library::AREA_FROM;
+    test_cells::pick(at < most, slot(list, width, at), library::junk())
+}
+
+// Number i of the summaries.
+fn summary(list: &cells::Cells, i: usize) -> usize {
+    let cell = test_cells::pick(i % 3 == 0, candidates::LENGTH, candidates::COUNT);
+    let number = candidates::of_row(list, choice::kept(list, i / 3), cell);
+    let none = (i % 3 == 2) | (i / 3 >= cells::get(list, candidates::KEPT));
+    test_cells::pick(none, 0, number)
+}
+
+fn put_sums(due: &mut cells::Cells, list: &cells::Cells) {
+    for i in 0..36 {
+        cells::put(due, test_cells::add(cells::SUMS, i), summary(list, i));
     }
 }
 
-// The summaries of the routes that are kept, with label count 0.
-fn put_sums(due: &mut cells::Cells, list: &cells::Cells) {
-    let count = cells::get(list, candidates::KEPT);
-    for i in 0..count {
-        let row = choice::kept(list, i);
-        let length = candidates::of_row(list, row, candidates::LENGTH);
-        let arcs = candidates::of_row(list, row, candidates::COUNT);
-        cells::put(due, told::place(i, 0), length);
-        cells::put(due, told::place(i, 1), arcs);
+fn put_area(due: &mut cells::Cells, case: &cells::Cells, list: &cells::Cells) {
+    for i in 0..library::AREA {
+        cells::put(due, test_cells::add(cells::AREA, i), word(case, list, i));
     }
 }
 
 // The answer where these are kept.
 pub(crate) fn answer(case: &cells::Cells, list: &cells::Cells) -> cells::Cells {
-    let wanted = cells::get(case, cells::ROUTES);
-    let fewer = cells::get(list, candidates::KEPT) < wanted;
-    let mut due = due::stays(fewer as usize, 0, cells::BUFFER);
-    put_slots(&mut due, case, list);
+    let mut due = [0usize; cells::CELLS];
+    let fewer = cells::get(list, candidates::KEPT) < cells::get(case, cells::ROUTES);
     put_sums(&mut due, list);
-    due[told::WRITTEN] = wanted;
+    put_area(&mut due, case, list);
+    cells::put(&mut due, cells::OUTCOME, fewer as usize);
+    cells::put(&mut due, cells::WORK, library::WORK);
     due
 }
 
-// What is due with that second table: the refusal of a wrong one changes nothing.
-pub(crate) fn with_second(answer: cells::Cells, second: &cells::Cells) -> cells::Cells {
-    if order::wrong(second) {
-        due::stays(SECOND, 0, cells::BUFFER)
+// The refusal of a second table, which changes nothing.
+fn refusal() -> cells::Cells {
+    let mut due = [0usize; cells::CELLS];
+    for i in 0..library::AREA {
+        cells::put(&mut due, test_cells::add(cells::AREA, i), library::junk());
+    }
+    cells::put(&mut due, cells::OUTCOME, SECOND);
+    cells::put(&mut due, cells::WORK, library::WORK);
+    due
+}
+
+// What is due with a second table in that order.
+pub(crate) fn of_order(answer: cells::Cells, order: &cells::Cells) -> cells::Cells {
+    if cells::get(order, order::WRONG) == 1 {
+        refusal()
     } else {
         answer
     }

@@ -2,14 +2,16 @@
 // generator, each with the right second table and with spoilt ones: how many there were, how often
 // each outcome was due, how many candidates were passed over, how many differed, and the first
 // difference in full.
+#![tactic(auto)]
+
 mod candidates;
+mod cells;
 mod choice;
 mod draw;
 mod due;
 mod library;
 mod order;
-
-use test_draw::{cells, report};
+mod report;
 
 const DRAWS: usize = 6000;
 
@@ -23,6 +25,16 @@ const DIFFERENT: usize = SPOILT + order::KINDS;
 
 const LINES: usize = DIFFERENT + 1;
 
+// Does the library give what is due? The first that differs is printed.
+fn agrees(case: &cells::Cells, order: &cells::Cells, due: &cells::Cells, first: bool) -> bool {
+    let got = library::answer(case, order);
+    let same = cells::same(due, &got);
+    if first & !same {
+        report::difference(case, order, due, &got);
+    }
+    same
+}
+
 // The case with a second table of that kind.
 fn with_second(
     tally: &mut cells::Cells,
@@ -31,14 +43,12 @@ fn with_second(
     kind: usize,
     number: usize,
 ) {
-    let second = order::of_kind(case, kind, number);
-    let due = due::with_second(answer, &second);
-    let got = library::answer(case, &second);
-    let wrong = order::wrong(&second);
-    cells::count(tally, test_cells::add(SPOILT, kind), wrong as usize);
-    if report::compare(tally, DIFFERENT, case, &due, &got) {
-        report::row(b"with the second table", &second);
-    }
+    let order = order::of_kind(case, kind, number);
+    let due = due::of_order(answer, &order);
+    let same = agrees(case, &order, &due, cells::get(tally, DIFFERENT) == 0);
+    let wrong = cells::get(&order, order::WRONG);
+    cells::count(tally, test_cells::add(SPOILT, kind), wrong);
+    cells::count(tally, DIFFERENT, !same as usize);
 }
 
 fn each_second(tally: &mut cells::Cells, case: &cells::Cells, answer: cells::Cells, number: usize) {
@@ -83,11 +93,31 @@ fn all() -> cells::Cells {
     tally
 }
 
+// Where the line that begins at `from` ends.
+fn line_end(text: &[u8], from: usize) -> usize {
+    for i in from..text.len() {
+        if test_cells::byte(text, i) == b'\n' {
+            return test_cells::add(i, 1);
+        }
+    }
+    text.len()
+}
+
+// Each number of the tally, before its line of the text.
+fn show(tally: &cells::Cells, text: &[u8]) {
+    let mut at = 0;
+    for i in 0..LINES {
+        let end = line_end(text, at);
+        io::print_decimal(1, cells::get(tally, i) as u64);
+        io::write_all(1, test_cells::between(text, at, end));
+        at = end;
+    }
+}
+
 fn main() {
     let tally = all();
-    report::show(
+    show(
         &tally,
-        LINES,
         b" draws
  with outcome 0 due
  with outcome 1 due

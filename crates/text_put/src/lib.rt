@@ -1,4 +1,6 @@
 // Text put into a lent buffer, piece after piece.
+#![tactic(auto)]
+
 ghost use Rattle.std.specs.Prelude.{◌∷◌, ◌+◌, ◌≤◌, length};
 ghost use Rattle.numerals.specs.Decimal.{decimal};
 ghost use Rattle.text_put.specs.Put.{Appended, space};

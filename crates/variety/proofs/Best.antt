@@ -2,19 +2,19 @@
 -- of those that no other is more varied than.
 use mathlib.Core.Path.{◌≡◌, refl, sym, ap, subst, ◌∙◌}
 use mathlib.Core.Logic.{◌⊎◌, inl, inr, ⊎_elim}
-use mathlib.Core.Option.{Option, none, some}
+use mathlib.Core.Option.{none, some}
 use mathlib.Core.List.Memᴰ
 use mathlib.Core.List.{List, [], ◌∷◌, ◌++◌, map, append-nil, append_assoc, Memᴰ}
 use mathlib.Core.Bool.{Bool, true, false, cond}
-use Prim.Native.Nat.{ℕ, zero, suc, ◌+◌, ◌*◌, ◌≤◌, ◌<◌}
+use Prim.Native.Nat.{ℕ, zero, suc, ◌≤◌, ◌<◌}
 use native.Mathlib.Omega.{arith}
 use native.Mathlib.Nat.{mul-le-mul_left, mul-lt-mul_of_pos_left, lt_of_mul-lt-mul_left}
 use lib.Dec.{T}
-use lib.ListN.{length, get_or, length-map}
-use Rattle.lists.specs.Tests.{up_from, lex}
+use lib.ListN.{length, get_or}
+use Rattle.lists.specs.Tests.{up_from}
 use Rattle.lists.proofs.Cases.{cases}
 use Rattle.lists.proofs.TestLaws.{lex-lt, lex-eq}
-use Rattle.lists.proofs.MemberLaws.{up_from-e, up_from-i, length-up_from}
+use Rattle.lists.proofs.MemberLaws.{length-up_from}
 use Rattle.net.specs.Net.{Arc}
 use Rattle.net.specs.Route.{length_of, numbers_first}
 use Rattle.variety.specs.Choice.{choices_of, hope, better, best_of}

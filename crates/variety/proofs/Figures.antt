@@ -7,11 +7,10 @@ use lib.ListN.{length}
 use Rattle.lists.specs.Tests.{up_from}
 use Rattle.net.specs.Net.{Arc, Net, plain}
 use Rattle.net.specs.Figures.{◌—◌⟶◌}
-use Rattle.net.specs.Route.{length_of, in_order}
 use Rattle.variety.specs.Choice.{search_from}
 use Rattle.distances.specs.Distance.{distance}
 use Rattle.variety.specs.Variety.{near, chosen, varied}
-use Rattle.variety.specs.Deeper.{deeper}
+use Rattle.variety.specs.Deeper.{deeper, insert_all}
 
 record Asked : Type 0 where
   net : Net
@@ -81,12 +80,12 @@ searched : map (λ x. search_from (varied x.net.arcs (list_of x)) (up_from 0 (le
 unfolding search_from varied near list_of ask asked up_from
 searched = refl
 
--- by going deeper, put in order
+-- by going deeper, put in their places
 to_go : Asked → ℕ → ℕ
 to_go x v = given (distance x.net v (pred x.net.nodes))
 
-went : map (λ x. in_order (length_of x.net.arcs) (deeper x.net 0 (pred x.net.nodes) (to_go x) x.d ((x.d + x.c) * to_go x 0) (pred x.net.nodes) [])) asked ≡ map list_of asked
-unfolding deeper in_order length_of near list_of ask asked to_go given distance
+went : map (λ x. insert_all x.net.arcs [] (deeper x.net 0 (pred x.net.nodes) (to_go x) x.d ((x.d + x.c) * to_go x 0) (pred x.net.nodes) [])) asked ≡ map list_of asked
+unfolding deeper insert_all near list_of ask asked to_go given distance
 went = refl
 
 -- ---- three stretches with two roads each: the three most different do not have the two most different among them

@@ -1,5 +1,5 @@
 -- The listing: going deeper one unvisited node at a time, and only where the distance still to go lets a chain arrive in range, finds exactly the routes in range; put
--- in order they are the list of the request.
+-- in their places one by one they are the list of the request.
 use mathlib.Core.Path.{◌≡◌, refl, sym, ap, subst, ◌∙◌}
 use mathlib.Core.Option.{none, some}
 use mathlib.Core.List.Memᴰ
@@ -26,8 +26,9 @@ use Rattle.distances.proofs.Walks.{end_of-append}
 use Rattle.distances.proofs.Parts.{partial-back}
 use Rattle.distances.proofs.Greedy.{far-at-most}
 use Rattle.variety.specs.Variety.{in_range, near_of, near, no_route}
-use Rattle.variety.specs.Deeper.{may_arrive, deeper, InRange, ToGo}
+use Rattle.variety.specs.Deeper.{may_arrive, deeper, insert_all, InRange, ToGo}
 use Rattle.variety.proofs.Shared.{partial-distinct}
+use Rattle.variety.proofs.Places.{insert_all-is}
 
 -- ---- a simple chain does not come back to where a beginning ended
 
@@ -146,12 +147,13 @@ module _ (net : Net) (sound : Sound net) (s t : ℕ) (s-below : s < net.nodes) (
       subst (λ o. Increasing (length_of net.arcs) (near_of net s t c d o)) (sym is-shortest)
       (keep-increasing (length_of net.arcs) test (partials net s) (partials-increasing net s (length_of net.arcs)))
 
-  -- what is found by going deeper, put in order, is the list
-  pub near-found : (D : ℕ → ℕ) → ToGo net t D → in_order (length_of net.arcs) (deeper net s t D d ((d + c) * shortest) (pred net.nodes) []) ≡ near net s t c d
+  -- what is found by going deeper, put in its places, is the list
+  pub near-found : (D : ℕ → ℕ) → ToGo net t D → insert_all net.arcs [] (deeper net s t D d ((d + c) * shortest) (pred net.nodes) []) ≡ near net s t c d
   near-found D go =
       let l = deeper net s t D d ((d + c) * shortest) (pred net.nodes) [] in
       let f = length_of net.arcs in
-      increasing-unique f (in_order f l) (near net s t c d) (in_order-increasing f l) near-increasing
+      insert_all-is net.arcs l
+      ∙ increasing-unique f (in_order f l) (near net s t c d) (in_order-increasing f l) near-increasing
       (λ x m. near-i x (found-e net s t D go d limit sound s-below x may (in_order-e f x l m)))
       (λ x m. in_order-i f (found-i net s t D go d limit sound s-below x (near-e x m)))
     where

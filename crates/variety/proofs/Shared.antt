@@ -1,8 +1,8 @@
 -- What two routes share is the same from either side, so code may mark one route and walk along another.
 use mathlib.Core.Path.{◌≡◌, refl, sym, ap, subst, ◌∙◌}
-use mathlib.Core.Logic.{◌⊎◌, inl, inr, ⊎_elim}
+use mathlib.Core.Logic.{◌⊎◌, inl, inr}
 use mathlib.Core.List.Memᴰ
-use mathlib.Core.List.{List, [], ◌∷◌, ◌++◌, map, Memᴰ}
+use mathlib.Core.List.{List, [], ◌∷◌, map, Memᴰ}
 use mathlib.Core.Bool.{Bool, true, false, not, ◌||◌, cond}
 use Prim.Native.Nat.{ℕ, ◌+◌}
 use native.Mathlib.Omega.{arith}
@@ -10,7 +10,6 @@ use native.Mathlib.Decide.{ℕ_discrete}
 use borrow.Author.Tests.{eq-eqb, ne_eqb}
 use lib.Dec.{T, eqb, T_not, not_T}
 use Rattle.lists.specs.Tests.{has, distinct, keep, cons_if}
-use Rattle.lists.proofs.Cases.{cases}
 use Rattle.lists.proofs.TestLaws.{and_i, and_l, and_r, has→mem, mem→has}
 use Rattle.net.specs.Net.{Arc, Net, arc}
 use Rattle.net.specs.Route.{visited, end_of, leaves, chain, partial, length_of}

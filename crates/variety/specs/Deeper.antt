@@ -1,10 +1,10 @@
 -- "The listing goes deeper one unvisited node at a time": by recursion over the extensions of a simple chain, and no further where the length so far and the distance
--- D still to go exceed the limit. What is found is put in order in the end.
+-- D still to go exceed the limit. What is found is put in its place in the list.
 use Rattle.std.specs.Prelude.{◌≡◌, Bool, cond, ℕ, zero, suc, ◌+◌, ◌*◌, ◌≤◌, T, leb, eqb}
 use mathlib.Core.List.{List, [], ◌∷◌, flat_map}
 use Rattle.lists.specs.Tests.{keep}
 use Rattle.net.specs.Net.{Arc, Net, arc}
-use Rattle.net.specs.Route.{end_of, partial, length_of, extensions}
+use Rattle.net.specs.Route.{end_of, partial, length_of, extensions, insert}
 use Rattle.distances.specs.Search.{Open}
 
 -- A chain may still arrive in range.
@@ -19,6 +19,12 @@ deeper net s t D d most zero p = cond (eqb (end_of net.arcs s p) t) (p ∷ []) [
 deeper net s t D d most (suc n) p =
     cond (eqb (end_of net.arcs s p) t) (p ∷ [])
     (flat_map (deeper net s t D d most n) (keep (may_arrive net.arcs s D d most) (extensions net s p)))
+
+-- Each put in its place in the order of rule 3, one by one.
+unfoldable pub insert_all : List Arc → List (List ℕ) → List (List ℕ) → List (List ℕ)
+unfolding insert length_of
+insert_all arcs list [] = list
+insert_all arcs list (x ∷ xs) = insert_all arcs (insert (length_of arcs) x list) xs
 
 -- A route in range.
 pub record InRange (net : Net) (s t d most : ℕ) (p : List ℕ) : Type 0 where

@@ -1,5 +1,7 @@
 // The candidates of all nodes: for each the first route from s to it joined to the first route from
 // it to the goal, read from the working room.
+#![tactic(auto)]
+
 pub mod chain;
 pub mod key;
 

@@ -1,5 +1,7 @@
 // The candidates that share too much with a route that was kept leave the queue. The overlap of a
 // first route grows by one arc from node to node, so each node's arc is looked at twice at most.
+#![tactic(auto)]
+
 pub mod walk;
 
 ghost use Rattle.std.specs.Prelude.{◌≡◌, ◌*◌, ◌≤◌, ◌<◌, ltb, leb, true, []};

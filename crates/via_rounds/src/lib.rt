@@ -1,5 +1,7 @@
 // The profile of a query: the candidates in order of rule 3, each kept if it is within the threshold
 // of all kept before.
+#![tactic(auto)]
+
 ghost use Rattle.std.specs.Prelude.{◌≡◌, true, cond, [], ◌+◌, ◌*◌, ◌≤◌, ◌<◌, ltb, length};
 ghost use Rattle.lists.specs.Tests.{every};
 ghost use Rattle.words.specs.Part.{patch};

@@ -1,5 +1,7 @@
 // The working room lent beside a table: a record of 64 bytes for each node, its fields by their
 // offsets.
+#![tactic(auto)]
+
 ghost use Rattle.std.specs.Prelude.{◌≡◌, ◌+◌, ◌*◌, ◌≤◌, length};
 ghost use Rattle.working_room.specs.Field.{room_bytes, long_at, word_at, put_long, put_word};
 

@@ -17,49 +17,49 @@ use Rattle.closures.proofs.wrong.Tie as tie
 abbrev test : List ℕ → ℕ → Bool
 test closed i = ltb 1 (get_or closed i 0)
 
-abbrev invariant-loop : tie.invariant-loop
-invariant-loop table closed i₀ i = (i ≤ length closed) × (any (test closed) (rest (length closed) i) ≡ wrong table closed)
+abbrev invariant-loop-i : tie.invariant-loop-i
+invariant-loop-i table closed i₀ i = (i ≤ length closed) × (any (test closed) (rest (length closed) i) ≡ wrong table closed)
 
-abbrev decreases-loop : tie.decreases-loop
-decreases-loop table closed i₀ i = length closed - i
+abbrev decreases-loop-i : tie.decreases-loop-i
+decreases-loop-i table closed i₀ i = length closed - i
 
-abbrev start : tie.At-loop invariant-loop decreases-loop → tie.Start invariant-loop decreases-loop
+abbrev start : tie.At-loop-i invariant-loop-i decreases-loop-i → tie.Start invariant-loop-i decreases-loop-i
 start a = a.before.before
 
-abbrev bytes : tie.At-loop invariant-loop decreases-loop → List ℕ
+abbrev bytes : tie.At-loop-i invariant-loop-i decreases-loop-i → List ℕ
 bytes a = (start a).args.closed.now
 
-returns : tie.Need-returns invariant-loop decreases-loop
+returns : tie.Need-returns-then-closed-table invariant-loop-i decreases-loop-i
 unfolding wrong
-returns c = rw (ne_eqb _ _ c.if1.true)
+returns c = rw (ne_eqb _ _ c.if-closed-table.true)
 
-loop-holds : tie.Need-loop-init invariant-loop decreases-loop
+loop-holds : tie.Need-loop-i-init invariant-loop-i decreases-loop-i
 unfolding wrong
 loop-holds c =
     let s = c.before in
-    (search rules, from_first (any (test s.args.closed.now)) (length s.args.closed.now) ∙ rw (eq-eqb _ _ c.if1.false))
+    (search rules, from_first (any (test s.args.closed.now)) (length s.args.closed.now) ∙ rw (eq-eqb _ _ c.if-closed-table.false))
 
-returns-2 : tie.Need-returns-2 invariant-loop decreases-loop
+returns-2 : tie.Need-returns-then-closed-i-gt1 invariant-loop-i decreases-loop-i
 returns-2 c =
     let a = c.before.before.before in
-    sym (one-stop (test (bytes a)) a.loop.i (length (bytes a)) c.before.before.loop-test.true (lt-ltb 1 _ c.if2.true)) ∙ a.loop.invariant.1
+    sym (one-stop (test (bytes a)) a.loop-i.i (length (bytes a)) c.before.before.loop-i-test.true (lt-ltb 1 _ c.if-closed-i-gt1.true)) ∙ a.loop-i.invariant.1
 
-loop-again : tie.Need-loop-preserved invariant-loop decreases-loop
+loop-again : tie.Need-loop-i-preserved invariant-loop-i decreases-loop-i
 loop-again c =
     let a = c.before.before.before in
-    (search rules, sym (one-step (test (bytes a)) a.loop.i (length (bytes a)) c.before.before.loop-test.true (le-ltb 1 _ c.if2.false)) ∙ a.loop.invariant.1)
+    (search rules, sym (one-step (test (bytes a)) a.loop-i.i (length (bytes a)) c.before.before.loop-i-test.true (le-ltb 1 _ c.if-closed-i-gt1.false)) ∙ a.loop-i.invariant.1)
 
-returns-3 : tie.Need-returns-3 invariant-loop decreases-loop
+returns-3 : tie.Need-returns invariant-loop-i decreases-loop-i
 returns-3 c =
     let a = c.before in
-    sym (one-done (test (bytes a)) a.loop.i (length (bytes a)) (omega arith)) ∙ a.loop.invariant.1
+    sym (one-done (test (bytes a)) a.loop-i.i (length (bytes a)) (omega arith)) ∙ a.loop-i.invariant.1
 
 pub wrong_spec : {M : Type 1} → statement M
 wrong_spec =
     tie.close
     (tie.spec
-    invariant-loop
-    decreases-loop
+    invariant-loop-i
+    decreases-loop-i
     returns
     loop-holds
     (λ c. search rules)

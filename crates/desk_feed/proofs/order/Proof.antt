@@ -7,8 +7,8 @@ use Rattle.desk_feed.proofs.order.Tie as tie
 
 returns : tie.Need-returns
 returns c =
-    let k = c.before.before in
-    let m = k.before.before.before.before in
+    let k = c in
+    let m = k in
     k.clear.ensures ∙ ap (cleared _) m.sort.ensures
 
 pub order_spec : {M : Type 1} → statement M

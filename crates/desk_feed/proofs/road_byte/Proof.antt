@@ -10,12 +10,12 @@ use Rattle.desk_feed.proofs.road_byte.Tie as tie
 returns : tie.Need-returns
 unfolding road_taken road_stored
 returns c =
-    let k = c.before.before.before in
-    let f = k.before.before in
-    let s = f.before.before.before in
+    let k = c in
+    let f = k in
+    let s = f in
     let x = s.args.x in
-    let e = f.feed.ensures in (
-      ap₂ {C = Taken} (λ r n. record { first = s.args.first; started = true; reader = r; sized = n }) e (c.sized-next.ensures ∙ ap (sized_by x.sized x.reader.begun) e),
+    let e = f.feed-r.ensures in (
+      ap₂ {C = Taken} (λ r n. record { first = s.args.first; started = true; reader = r; sized = n }) e (c.sized_next.ensures ∙ ap (sized_by x.sized x.reader.begun) e),
       k.store.ensures ∙ ap (stored_by s.args.table.now x.reader.count) e,
     )
 

@@ -6,43 +6,43 @@ use Rattle.desk_feed.proofs.TakenLaws.{started-road, newline-road, first-road, t
 use Rattle.desk_feed.proofs.take.Statement.{statement}
 use Rattle.desk_feed.proofs.take.Tie as tie
 
-abbrev start : tie.After-keep → tie.Start
+abbrev start : tie.After-keep-n → tie.Start
 start k = k.before.before.before.before
 
-returns : tie.Need-returns
+returns : tie.Need-returns-then-x
 returns c =
-    let r = c.before.before in
-    let i = r.before.before in
-    let k = i.before.before.before in
-    let x = (start k).args.x in
-    let on = started-road x (start k).args.byte i.if1.true in (
-      r.road-byte.ensures.0 ∙ ap (λ n. road_taken x n (start k).args.byte) k.keep.ensures.1 ∙ taken-road x _ on _,
-      k.keep.ensures.0,
-      r.road-byte.ensures.1 ∙ table-road x _ on _,
+    let r = c in
+    let i = r in
+    let k = i in
+    let x = k.args.x in
+    let on = started-road x k.args.byte i.if-x.true in (
+      r.road_byte.ensures.0 ∙ ap (λ n. road_taken x n k.args.byte) k.keep-n.ensures.1 ∙ taken-road x _ on _,
+      k.keep-n.ensures.0,
+      r.road_byte.ensures.1 ∙ table-road x _ on _,
     )
 
-returns-2 : tie.Need-returns-2
+returns-2 : tie.Need-returns-then-byte-eq-NEWLINE
 returns-2 c =
-    let r = c.before.before in
-    let i = r.before.before in
-    let e = i.before in
-    let k = e.before.before.before in
-    let x = (start k).args.x in
-    let on = newline-road x (start k).args.byte e.if1.false i.if2.true in (
-      r.road-byte2.ensures.0 ∙ ap (λ n. road_taken x n (start k).args.byte) k.keep.ensures.1 ∙ taken-road x _ on _,
-      k.keep.ensures.0,
-      r.road-byte2.ensures.1 ∙ table-road x _ on _,
+    let r = c in
+    let i = r in
+    let e = i in
+    let k = e in
+    let x = k.args.x in
+    let on = newline-road x k.args.byte e.if-x.false i.if-byte-eq-NEWLINE.true in (
+      r.road_byte-then-byte-eq-NEWLINE.ensures.0 ∙ ap (λ n. road_taken x n k.args.byte) k.keep-n.ensures.1 ∙ taken-road x _ on _,
+      k.keep-n.ensures.0,
+      r.road_byte-then-byte-eq-NEWLINE.ensures.1 ∙ table-road x _ on _,
     )
 
-returns-3 : tie.Need-returns-3
+returns-3 : tie.Need-returns
 returns-3 c =
-    let i = c.before in
-    let e = i.before in
-    let k = e.before.before.before in
-    let x = (start k).args.x in
-    let off = first-road x (start k).args.byte e.if1.false i.if2.false in (
-      taken-first x _ off _ ∙ ap (λ n. taken_by x n (start k).args.byte) k.keep.ensures.1,
-      k.keep.ensures.0,
+    let i = c in
+    let e = i in
+    let k = e in
+    let x = k.args.x in
+    let off = first-road x k.args.byte e.if-x.false i.if-byte-eq-NEWLINE.false in (
+      taken-first x _ off _ ∙ ap (λ n. taken_by x n k.args.byte) k.keep-n.ensures.1,
+      k.keep-n.ensures.0,
       table-first x _ off _,
     )
 

@@ -6,16 +6,16 @@ use Rattle.desk_feed.specs.Taken.{above_by}
 use Rattle.desk_feed.proofs.too_large.Statement.{statement}
 use Rattle.desk_feed.proofs.too_large.Tie as tie
 
-returns : tie.Need-returns
+returns : tie.Need-returns-then-above
 returns c =
-    let a = c.before.before in
-    let e : above_by a.before.args.r ≡ true = sym a.above.ensures ∙ c.before.if1.true in
-    c.sized-first.ensures ∙ rw e
+    let a = c in
+    let e : above_by a.args.r ≡ true = sym a.above.ensures ∙ c.if-above.true in
+    c.sized_first.ensures ∙ rw e
 
-returns-2 : tie.Need-returns-2
+returns-2 : tie.Need-returns
 returns-2 c =
-    let a = c.before in
-    let e : above_by a.before.args.r ≡ false = sym a.above.ensures ∙ c.if1.false in
+    let a = c in
+    let e : above_by a.args.r ≡ false = sym a.above.ensures ∙ c.if-above.false in
     rw e
 
 pub too_large_spec : {M : Type 1} → statement M

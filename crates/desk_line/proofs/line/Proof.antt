@@ -14,74 +14,74 @@ use Rattle.desk_line.proofs.LineLaws.{separator-positive, prepends, line-done, l
 use Rattle.desk_line.proofs.line.Statement.{statement}
 use Rattle.desk_line.proofs.line.Tie as tie
 
-abbrev invariant-loop : tie.invariant-loop
-invariant-loop text at into₀ n p₀ i₀ into p i =
+abbrev invariant-loop-i : tie.invariant-loop-i
+invariant-loop-i text at into₀ n p₀ i₀ into p i =
     (i ≤ length into₀) × (length into ≡ length into₀) × (p ≤ length text) × (prepends (take i into) (line_from (length into₀ - i) text p) ≡ line_from (length into₀) text at)
 
-abbrev decreases-loop : tie.decreases-loop
-decreases-loop text at into₀ n p₀ i₀ into p i = length into₀ - i
+abbrev decreases-loop-i : tie.decreases-loop-i
+decreases-loop-i text at into₀ n p₀ i₀ into p i = length into₀ - i
 
 -- ---- a turn in which a number is found
 
-abbrev turn : tie.After-known-told invariant-loop decreases-loop → tie.At-loop invariant-loop decreases-loop
-turn c = c.before.before.before.before.before.before
+abbrev turn : tie.In-Number invariant-loop-i decreases-loop-i → tie.At-loop-i invariant-loop-i decreases-loop-i
+turn c = c.before.before.before.before
 
-abbrev start : tie.After-known-told invariant-loop decreases-loop → tie.Start invariant-loop decreases-loop
+abbrev start : tie.In-Number invariant-loop-i decreases-loop-i → tie.Start invariant-loop-i decreases-loop-i
 start c = (turn c).before.before.before
 
-abbrev value : tie.After-known-told invariant-loop decreases-loop → ℕ
-value c = c.before.x.given.0.0
+abbrev value : tie.In-Number invariant-loop-i decreases-loop-i → ℕ
+value c = c.in-Number.v
 
-abbrev next : tie.After-known-told invariant-loop decreases-loop → ℕ
-next c = c.before.x.given.0.1.0
+abbrev next : tie.In-Number invariant-loop-i decreases-loop-i → ℕ
+next c = c.in-Number.next
 
-abbrev mark : tie.After-known-told invariant-loop decreases-loop → ℕ
-mark c = c.before.before.before.before.mark-after.result
+abbrev mark : tie.In-Number invariant-loop-i decreases-loop-i → ℕ
+mark c = c.mark_after-mark.result
 
-found : (c : tie.After-known-told invariant-loop decreases-loop) → some (record { is = value c; takes = next c - (turn c).loop.p }) ≡ number_before (mark c) (start c).args.text.now (turn c).loop.p
-found c = sym (ap (read_of (turn c).loop.p) c.before.x.given.1) ∙ c.before.before.before.number-before.ensures
+found : (c : tie.In-Number invariant-loop-i decreases-loop-i) → some (record { is = value c; takes = next c - (turn c).loop-i.p }) ≡ number_before (mark c) (start c).args.text.now (turn c).loop-i.p
+found c = sym (ap (read_of (turn c).loop-i.p) c.in-Number.is) ∙ c.number_before-x.ensures
 
-within : (c : tie.After-known-told invariant-loop decreases-loop) → next c < length (start c).args.text.now
+within : (c : tie.In-Number invariant-loop-i decreases-loop-i) → next c < length (start c).args.text.now
 within c =
-    line-within (start c).args.text.now (length (start c).args.into.now) (turn c).loop.i (turn c).loop.p (turn c).loop.into _ (turn c).loop.invariant.3
-    (mark c) c.before.before.before.before.mark-after.ensures c.before.before.before.before.before.loop-test.true (value c) (next c) (found c)
+    line-within (start c).args.text.now (length (start c).args.into.now) (turn c).loop-i.i (turn c).loop-i.p (turn c).loop-i.into _ (turn c).loop-i.invariant.3
+    (mark c) c.mark_after-mark.ensures c.loop-i-test.true (value c) (next c) (found c)
 
-number-before-requires : tie.Need-number-before-requires invariant-loop decreases-loop
-number-before-requires c κs = (search rules, omega (arith, c.mark-after.ensures, separator-positive (length c.before.before.before.before.before.args.into.now - (c.before.before.loop.i + 1))))
+number-before-requires : tie.Need-number_before-x-requires invariant-loop-i decreases-loop-i
+number-before-requires c κs = (search rules, omega (arith, c.mark_after-mark.ensures, separator-positive (length c.args.into.now - (c.loop-i.i + 1))))
 
-loop-again : tie.Need-loop-preserved invariant-loop decreases-loop
+loop-again : tie.Need-loop-i-preserved invariant-loop-i decreases-loop-i
 loop-again c = (
   search rules,
   search rules,
   omega (arith, within c),
-  line_step (start c).args.text.now (length (start c).args.into.now) (turn c).loop.i (turn c).loop.p (turn c).loop.into _ (turn c).loop.invariant.3
-      (mark c) c.before.before.before.before.mark-after.ensures c.before.before.before.before.before.loop-test.true (value c) (next c) (found c) (turn c).loop.invariant.1,
+  line_step (start c).args.text.now (length (start c).args.into.now) (turn c).loop-i.i (turn c).loop-i.p (turn c).loop-i.into _ (turn c).loop-i.invariant.3
+      (mark c) c.mark_after-mark.ensures c.loop-i-test.true (value c) (next c) (found c) (turn c).loop-i.invariant.1,
 )
 
-returns : tie.Need-returns invariant-loop decreases-loop
+returns : tie.Need-returns-in-NoNumber invariant-loop-i decreases-loop-i
 returns c =
-    let r = c.before.before in
-    let t = r.before.before.before in
-    let s = t.before.before.before in (
-      t.loop.invariant.1,
-      line-stop s.args.text.now (length s.args.into.now) t.loop.i t.loop.p t.loop.into _ t.loop.invariant.3
-          r.before.mark-after.result r.before.mark-after.ensures r.before.before.loop-test.true
-          (sym (ap (read_of t.loop.p) c.enum_told.given.1) ∙ r.number-before.ensures),
+    let r = c.before in
+    let t = r.before.before in
+    let s = t.before.before in (
+      t.loop-i.invariant.1,
+      line-stop s.args.text.now (length s.args.into.now) t.loop-i.i t.loop-i.p t.loop-i.into _ t.loop-i.invariant.3
+          r.mark_after-mark.result r.mark_after-mark.ensures r.loop-i-test.true
+          (sym (ap (read_of t.loop-i.p) c.in-NoNumber.is) ∙ r.number_before-x.ensures),
     )
 
-returns-2 : tie.Need-returns-2 invariant-loop decreases-loop
+returns-2 : tie.Need-returns invariant-loop-i decreases-loop-i
 returns-2 c =
     let t = c.before in
     let s = t.before.before.before in
-    (t.loop.invariant.1, line-done s.args.text.now (length s.args.into.now) t.loop.i t.loop.p t.loop.into _ t.loop.invariant.3 t.loop.invariant.1 c.loop-test.false)
+    (t.loop-i.invariant.1, line-done s.args.text.now (length s.args.into.now) t.loop-i.i t.loop-i.p t.loop-i.into _ t.loop-i.invariant.3 t.loop-i.invariant.1 c.loop-i-test.false)
 
 pub line_spec : {M : Type 1} → statement M
 unfolding prepends
 line_spec =
     tie.close
     (tie.spec
-    invariant-loop
-    decreases-loop
+    invariant-loop-i
+    decreases-loop-i
     (λ c. (search rules, refl, search rules, rw sub-zero))
     (λ c. search rules)
     (λ c. search rules)

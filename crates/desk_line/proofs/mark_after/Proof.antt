@@ -7,4 +7,4 @@ use Rattle.desk_line.proofs.mark_after.Statement.{statement}
 use Rattle.desk_line.proofs.mark_after.Tie as tie
 
 pub mark_after_spec : {M : Type 1} → statement M
-mark_after_spec = tie.close (tie.spec (λ c. search rules) (λ c. sym (separator-more c.before.args.left c.if1.false)))
+mark_after_spec = tie.close (tie.spec (λ c. search rules) (λ c. sym (separator-more c.args.left c.if-left-eq0.false)))

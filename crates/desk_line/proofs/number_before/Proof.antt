@@ -12,48 +12,48 @@ use Rattle.desk_line.proofs.LineLaws.{before-none, before-other, before-past, be
 use Rattle.desk_line.proofs.number_before.Statement.{statement}
 use Rattle.desk_line.proofs.number_before.Tie as tie
 
-abbrev start : tie.After-known-told → tie.Start
-start c = c.before.before.before.before.before
+abbrev start : tie.In-Number → tie.Start
+start c = c.before.before.before
 
 -- what was read, and the place after it
-abbrev value : tie.After-known-told → ℕ
-value c = c.before.x.given.0.0
+abbrev value : tie.In-Number → ℕ
+value c = c.in-Number.v
 
-abbrev next : tie.After-known-told → ℕ
-next c = c.before.x.given.0.1.0
+abbrev next : tie.In-Number → ℕ
+next c = c.in-Number.next
 
-found : (c : tie.After-known-told) → some (record { is = value c; takes = next c - (start c).args.at }) ≡ number (drop (start c).args.at (start c).args.text.now)
-found c = sym (ap (read_of (start c).args.at) c.before.x.given.1) ∙ c.before.before.before.read.ensures
+found : (c : tie.In-Number) → some (record { is = value c; takes = next c - (start c).args.at }) ≡ number (drop (start c).args.at (start c).args.text.now)
+found c = sym (ap (read_of (start c).args.at) c.in-Number.is) ∙ c.read-x.ensures
 
-returns : tie.Need-returns
+returns : tie.Need-returns-then-text-next
 returns c =
     let k = c.before in
     let s = start k in
-    before-past s.args.text.now s.args.at s.args.mark (value k) (next k) (found k) s.pre.1 c.if1.true
+    before-past s.args.text.now s.args.at s.args.mark (value k) (next k) (found k) s.requires.1 c.if-text-next.true
 
-returns-2 : tie.Need-returns-2
+returns-2 : tie.Need-returns-then-text-next-2
 returns-2 c =
     let k = c.before.before.before in
     let s = start k in
-    before-other s.args.text.now s.args.at s.args.mark (value k) (next k) (found k) c.if2.true
+    before-other s.args.text.now s.args.at s.args.mark (value k) (next k) (found k) c.if-text-next-2.true
 
-returns-3 : tie.Need-returns-3
+returns-3 : tie.Need-returns-else-text-next-2
 returns-3 c =
     let k = c.before.before.before in
     let s = start k in
-    before-mark s.args.text.now s.args.at s.args.mark (value k) (next k) (found k) (eq-eqb _ _ c.if2.false)
+    before-mark s.args.text.now s.args.at s.args.mark (value k) (next k) (found k) (eq-eqb _ _ c.if-text-next-2.false)
 
-returns-4 : tie.Need-returns-4
+returns-4 : tie.Need-returns-in-NoNumber
 returns-4 c =
-    let r = c.before.before in
-    let s = r.before.before in
-    before-none s.args.text.now s.args.at s.args.mark (sym (ap (read_of s.args.at) c.enum_told.given.1) ∙ r.read.ensures)
+    let r = c.before in
+    let s = r.before in
+    before-none s.args.text.now s.args.at s.args.mark (sym (ap (read_of s.args.at) c.in-NoNumber.is) ∙ r.read-x.ensures)
 
 pub number_before_spec : {M : Type 1} → statement M
 number_before_spec =
     tie.close
     (tie.spec
-    (λ c κs. c.before.requires.0)
+    (λ c κs. c.requires.0)
     (λ c. search rules)
     returns
     (λ c. search rules)

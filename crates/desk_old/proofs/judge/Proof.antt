@@ -14,11 +14,11 @@ use Rattle.desk_old.proofs.judge.Tie as tie
 
 returns : tie.Need-returns
 returns c =
-    let a = c.before.before.before.before in
-    let s = a.before.before in
+    let a = c in
+    let s = a in
     c.refused.ensures
     ∙ ap (λ k. refused_of (asked s.args.table.now [] k (record { k = s.args.x.k; lent = most_routes; closing = false }) (replicate (desk_labels * label_bytes) 0) (replicate desk_words 0)))
-    a.ask-of.ensures
+    a.ask_of-ask.ensures
 
 pub judge_spec : {M : Type 1} → statement M
 judge_spec =

@@ -5,22 +5,22 @@ use Rattle.desk_old.proofs.SaidLaws.{turned-refused, turned-written}
 use Rattle.desk_old.proofs.turn_asked.Statement.{statement}
 use Rattle.desk_old.proofs.turn_asked.Tie as tie
 
-abbrev start : tie.After-judge → tie.Start
+abbrev start : tie.After-judge-told → tie.Start
 start j = j.before.before.before
 
-returns : tie.Need-returns
+returns : tie.Need-returns-then-told-ne-FOUND
 returns c =
-    let f = c.before.before in
-    let t = f.before.before in
-    let j = t.before.before in
-    appended-as _ _ _ _ _ (turned-refused (start j).args.x (start j).args.table.now _ j.judge.ensures t.if1.true) f.refused.ensures
+    let f = c in
+    let t = f in
+    let j = t in
+    appended-as _ _ _ _ _ (turned-refused j.args.x j.args.table.now _ j.judge-told.ensures t.if-told-ne-FOUND.true) f.refused.ensures
 
-returns-2 : tie.Need-returns-2
+returns-2 : tie.Need-returns
 returns-2 c =
-    let w = c.before.before in
-    let e = w.before.before in
-    let j = e.before.before in
-    appended-as _ _ _ _ _ (turned-written (start j).args.x (start j).args.table.now _ j.judge.ensures e.if1.false) w.write.ensures
+    let w = c in
+    let e = w in
+    let j = e in
+    appended-as _ _ _ _ _ (turned-written j.args.x j.args.table.now _ j.judge-told.ensures e.if-told-ne-FOUND.false) w.write.ensures
 
 pub turn_asked_spec : {M : Type 1} → statement M
 turn_asked_spec =

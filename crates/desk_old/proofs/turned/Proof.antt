@@ -9,32 +9,32 @@ use Rattle.desk_old.proofs.SaidLaws.{turned-malformed, Asking, asks-old}
 use Rattle.desk_old.proofs.turned.Statement.{statement}
 use Rattle.desk_old.proofs.turned.Tie as tie
 
-abbrev start : tie.After-read → tie.Start
+abbrev start : tie.After-read-x → tie.Start
 start r = r.before.before.before.before
 
-abbrev read : tie.Else1 → tie.After-read
+abbrev read : tie.Else-x-ne0 → tie.After-read-x
 read e = e.before.before.before
 
 -- the text asks
-asks : (e : tie.Else1) → Asking (start (read e)).args.text.now (read e).read.result (read e).read.new.1.0
-asks e = asks-old _ _ _ (read e).read.ensures e.if1.false
+asks : (e : tie.Else-x-ne0) → Asking (start (read e)).args.text.now (read e).read-x.result (read e).read-x.new.table
+asks e = asks-old _ _ _ (read e).read-x.ensures e.if-x-ne0.false
 
-returns : tie.Need-returns
+returns : tie.Need-returns-then-x-ne0
 returns c =
-    let f = c.before.before in
-    let t = f.before.before in
-    appended-as _ _ _ _ _ (turned-malformed _ _ _ _ t.before.before.before.read.ensures t.if1.true) f.refused.ensures
+    let f = c in
+    let t = f in
+    appended-as _ _ _ _ _ (turned-malformed _ _ _ _ t.read-x.ensures t.if-x-ne0.true) f.refused.ensures
 
-turn-asked-requires : tie.Need-turn-asked-requires
+turn-asked-requires : tie.Need-turn_asked-requires
 turn-asked-requires c κs =
-    let e = c.before.before.before.before in
-    ((start (read e)).requires, omega (arith, (asks e).most, length-take ((read e).read.result.arcs * 16 - 0) (read e).read.new.1.0))
+    let e = c.before.before.before in
+    ((start (read e)).requires, omega (arith, (asks e).most, length-take ((read e).read-x.result.arcs * 16 - 0) (read e).read-x.new.table))
 
-returns-2 : tie.Need-returns-2
+returns-2 : tie.Need-returns
 returns-2 c =
-    let q = c.before.before in
-    let e = q.before.before.before.before.before in
-    appended-as _ _ _ _ _ (asks e).due q.turn-asked.ensures
+    let q = c in
+    let e = q.before.before.before.before.before.before in
+    appended-as _ _ _ _ _ (asks e).due q.turn_asked.ensures
 
 pub turned_spec : {M : Type 1} → statement M
 turned_spec =
@@ -49,7 +49,7 @@ turned_spec =
     (λ c. search rules)
     (λ c. search rules)
     (λ c. search rules)
-    (λ c. omega (arith, (asks c.before.before).long))
+    (λ c. omega (arith, (asks c.before).long))
     turn-asked-requires
     (λ c. search rules)
     returns-2)

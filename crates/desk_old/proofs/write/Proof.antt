@@ -8,7 +8,7 @@ use Rattle.road_write.proofs.TextLaws.{text-most}
 use Rattle.desk_old.proofs.write.Statement.{statement}
 use Rattle.desk_old.proofs.write.Tie as tie
 
-abbrev start : tie.After-route → tie.Start
+abbrev start : tie.After-route-at → tie.Start
 start r = r.before.before.before.before.before.before.before.before
 
 put-requires : tie.Need-put-requires
@@ -16,13 +16,13 @@ put-requires c κs =
     let r = c.before.before.before in
     let s = start r in
     let x = s.args.x in
-    omega (arith, s.pre.0, s.pre.1, r.route.ensures.place, route-length x.s x.goal x.k (x.a ∷ x.b ∷ []), text-most s.args.table.now x.nodes)
+    omega (arith, s.requires.0, s.requires.1, r.route-at.ensures.place, route-length x.s x.goal x.k (x.a ∷ x.b ∷ []), text-most s.args.table.now x.nodes)
 
 returns : tie.Need-returns
 returns c =
-    let p = c.before.before in
-    let r = p.before.before.before.before in
-    appended-more (start r).args.out.now 0 _ _ _ _ _ _ r.route.ensures p.put.ensures (omega arith)
+    let p = c in
+    let r = p in
+    appended-more r.args.out.now 0 _ _ _ _ _ _ r.route-at.ensures p.put.ensures (omega arith)
 
 pub write_spec : {M : Type 1} → statement M
 write_spec =

@@ -6,17 +6,17 @@ use borrow.Author.Rules.{rules}
 use Rattle.desk_old_input.proofs.arc.Statement.{statement}
 use Rattle.desk_old_input.proofs.arc.Tie as tie
 
-returns : tie.Need-returns
+returns : tie.Need-returns-in-At
 returns c =
-    let k = c.before.before.before.before.before in
-    let r = k.before.before.before in
-    let row = r.line.new.1.1.0 in
-    (search rules, (row, sym r.line.ensures.1 ∙ ap (λ x. line_of x row) k.x.given.1, c.before.before.write.ensures))
+    let k = c in
+    let r = k in
+    let row = r.line-x.new.into in
+    (search rules, (row, sym r.line-x.ensures.1 ∙ ap (λ x. line_of x row) k.in-At.is, c.write.ensures))
 
-returns-2 : tie.Need-returns-2
+returns-2 : tie.Need-returns-in-Malformed
 returns-2 c =
-    let r = c.before.before.before in
-    (refl, sym r.line.ensures.1 ∙ ap (λ x. line_of x r.line.new.1.1.0) c.enum_told.given.1)
+    let r = c in
+    (refl, sym r.line-x.ensures.1 ∙ ap (λ x. line_of x r.line-x.new.into) c.in-Malformed.is)
 
 pub arc_spec : {M : Type 1} → statement M
 arc_spec =

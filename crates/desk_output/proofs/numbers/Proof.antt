@@ -13,29 +13,29 @@ use Rattle.desk_output.proofs.TextLaws.{numbers-turn, numbers-all}
 use Rattle.desk_output.proofs.numbers.Statement.{statement}
 use Rattle.desk_output.proofs.numbers.Tie as tie
 
-abbrev invariant-loop : tie.invariant-loop
-invariant-loop out₀ at vs next₀ i₀ out next i = (i ≤ length vs) × (length out ≡ length out₀) × (next ≤ at + i * 21) × Appended out₀ at (numbers_text (take i vs)) out next
+abbrev invariant-loop-i : tie.invariant-loop-i
+invariant-loop-i out₀ at vs next₀ i₀ out next i = (i ≤ length vs) × (length out ≡ length out₀) × (next ≤ at + i * 21) × Appended out₀ at (numbers_text (take i vs)) out next
 
-abbrev decreases-loop : tie.decreases-loop
-decreases-loop out₀ at vs next₀ i₀ out next i = length vs - i
+abbrev decreases-loop-i : tie.decreases-loop-i
+decreases-loop-i out₀ at vs next₀ i₀ out next i = length vs - i
 
-spaced-requires : tie.Need-spaced-requires invariant-loop decreases-loop
+spaced-requires : tie.Need-spaced-next-requires invariant-loop-i decreases-loop-i
 spaced-requires c κs =
     let a = c.before.before.before in
     let s = a.before.before.before in
-    omega (arith, decimal-length (get_or s.args.vs.now a.loop.i 0))
+    omega (arith, decimal-length (get_or s.args.vs.now a.loop-i.i 0))
 
-loop-again : tie.Need-loop-preserved invariant-loop decreases-loop
+loop-again : tie.Need-loop-i-preserved invariant-loop-i decreases-loop-i
 loop-again c =
     let w = c.before.before in
     let a = w.before.before.before.before in
     let s = a.before.before.before in
-    let b = w.spaced.ensures in
-    let v = get_or s.args.vs.now a.loop.i 0 in (
+    let b = w.spaced-next.ensures in
+    let v = get_or s.args.vs.now a.loop-i.i 0 in (
       omega arith,
-      omega (arith, a.loop.invariant.1, w.spaced.auto.0),
-      omega (arith, a.loop.invariant.2, b.place, decimal-length v),
-      numbers-turn _ _ s.args.vs.now _ _ a.loop.i _ _ a.loop.invariant.3 b (omega arith) (omega arith),
+      omega (arith, a.loop-i.invariant.1, w.spaced-next.auto.out),
+      omega (arith, a.loop-i.invariant.2, b.place, decimal-length v),
+      numbers-turn _ _ s.args.vs.now _ _ a.loop-i.i _ _ a.loop-i.invariant.3 b (omega arith) (omega arith),
     )
 
 pub numbers_spec : {M : Type 1} → statement M
@@ -43,15 +43,15 @@ unfolding numbers_text
 numbers_spec =
     tie.close
     (tie.spec
-    invariant-loop
-    decreases-loop
+    invariant-loop-i
+    decreases-loop-i
     (λ c. (search rules, search rules, search rules, appended-none _ _))
     (λ c. search rules)
     (λ c. search rules)
-    (λ c. omega (arith, c.shared-slice-known2.given c.before.before.before.loop.i))
+    (λ c. omega (arith, c.shared_slice_known-in-loop-i-1.given c.loop-i.i))
     spaced-requires
     (λ c. search rules)
     (λ c. search rules)
     loop-again
     (λ c. search rules)
-    (λ c. numbers-all _ _ _ _ _ c.before.loop.i c.before.loop.invariant.3 (omega arith)))
+    (λ c. numbers-all _ _ _ _ _ c.loop-i.i c.loop-i.invariant.3 (omega arith)))

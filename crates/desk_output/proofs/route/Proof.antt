@@ -12,32 +12,32 @@ use Rattle.desk_output.proofs.route.Statement.{statement}
 use Rattle.desk_output.proofs.route.Tie as tie
 
 -- the places of the calls, each from the one after it
-abbrev start : tie.After-write → tie.Start
+abbrev start : tie.After-write-first → tie.Start
 start w = w.before.before.before.before
 
-abbrev first : tie.After-spaced → tie.After-write
+abbrev first : tie.After-spaced-second → tie.After-write-first
 first x = x.before.before.before.before
 
-abbrev second : tie.After-spaced2 → tie.After-spaced
+abbrev second : tie.After-spaced-third → tie.After-spaced-second
 second y = y.before.before.before.before
 
-abbrev third : tie.After-numbers → tie.After-spaced2
+abbrev third : tie.After-numbers-last → tie.After-spaced-third
 third n = n.before.before.before.before
 
 -- each number has its room
-round-most : (w : tie.After-write) → w.write.result ≤ (start w).args.at + 20
-round-most w = omega (arith, w.write.ensures.0, decimal-length (start w).args.round)
+round-most : (w : tie.After-write-first) → w.write-first.result ≤ (start w).args.at + 20
+round-most w = omega (arith, w.write-first.ensures.0, decimal-length (start w).args.round)
 
-len-most : (x : tie.After-spaced) → x.spaced.result ≤ (start (first x)).args.at + 41
-len-most x = omega (arith, round-most (first x), x.spaced.ensures.place, decimal-length (start (first x)).args.len)
+len-most : (x : tie.After-spaced-second) → x.spaced-second.result ≤ (start (first x)).args.at + 41
+len-most x = omega (arith, round-most (first x), x.spaced-second.ensures.place, decimal-length (start (first x)).args.len)
 
-labels-most : (y : tie.After-spaced2) → y.spaced2.result ≤ (start (first (second y))).args.at + 62
-labels-most y = omega (arith, len-most (second y), y.spaced2.ensures.place, decimal-length (start (first (second y))).args.labels)
+labels-most : (y : tie.After-spaced-third) → y.spaced-third.result ≤ (start (first (second y))).args.at + 62
+labels-most y = omega (arith, len-most (second y), y.spaced-third.ensures.place, decimal-length (start (first (second y))).args.labels)
 
-slice-write-out : tie.Need-slice-write-out
+slice-write-out : tie.Need-bounds-out-last
 slice-write-out c =
     let n = c.before.before in
-    omega (arith, labels-most (third n), n.numbers.ensures.place, numbers-length (start (first (second (third n)))).args.arcs.now)
+    omega (arith, labels-most (third n), n.numbers-last.ensures.place, numbers-length (start (first (second (third n)))).args.arcs.now)
 
 returns : tie.Need-returns
 returns c =
@@ -49,10 +49,10 @@ returns c =
     let l = s.args.out.now in
     let at = s.args.at in
     let h : at ≤ length l = omega arith in
-    let i = appended-by l at (decimal s.args.round) _ _ w.write.ensures in
-    let ii = appended-more l at _ _ _ _ _ _ i x.spaced.ensures h in
-    let iii = appended-more l at _ _ _ _ _ _ ii y.spaced2.ensures h in
-    let iv = appended-more l at _ _ _ _ _ _ iii n.numbers.ensures h in
+    let i = appended-by l at (decimal s.args.round) _ _ w.write-first.ensures in
+    let ii = appended-more l at _ _ _ _ _ _ i x.spaced-second.ensures h in
+    let iii = appended-more l at _ _ _ _ _ _ ii y.spaced-third.ensures h in
+    let iv = appended-more l at _ _ _ _ _ _ iii n.numbers-last.ensures h in
     rw (← route-parts s.args.round s.args.len s.args.labels s.args.arcs.now)
     (appended-more l at _ _ _ _ _ _ iv (appended_one _ _ newline (slice-write-out c)) h)
 

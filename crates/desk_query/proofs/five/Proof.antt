@@ -10,21 +10,21 @@ use Rattle.desk_query.proofs.FirstLaws.{five-none, five-some, read_as}
 use Rattle.desk_query.proofs.five.Statement.{statement}
 use Rattle.desk_query.proofs.five.Tie as tie
 
-returns : tie.Need-returns
+returns : tie.Need-returns-in-At
 returns c =
-    let k = c.before in
-    let l = k.before.before.before.before in
-    let row = l.line.new.1.1.0 in
-    let text = l.before.before.before.args.text.now in
-    let e : line_from 5 text 0 ≡ some (record { values = row; next = k.before.x.given.0.0 }) = sym l.line.ensures.1 ∙ ap (λ x. line_of x row) k.before.x.given.1 in
-    read_as _ (query row) _ (five-some (line_from 5 text 0) _ e) (c.plain.ensures, by_entries 5 row l.line.ensures.0)
+    let k = c in
+    let l = k in
+    let row = l.line-x.new.into in
+    let text = l.args.text.now in
+    let e : line_from 5 text 0 ≡ some (record { values = row; next = k.in-At.next }) = sym l.line-x.ensures.1 ∙ ap (λ x. line_of x row) k.in-At.is in
+    read_as _ (query row) _ (five-some (line_from 5 text 0) _ e) (c.plain.ensures, by_entries 5 row l.line-x.ensures.0)
 
-returns-2 : tie.Need-returns-2
+returns-2 : tie.Need-returns-in-Malformed
 returns-2 c =
-    let l = c.before.before.before.before in
-    let row = l.line.new.1.1.0 in
-    let text = l.before.before.before.args.text.now in
-    let e : line_from 5 text 0 ≡ none = sym l.line.ensures.1 ∙ ap (λ x. line_of x row) c.before.enum_told.given.1 in
+    let l = c in
+    let row = l.line-x.new.into in
+    let text = l.args.text.now in
+    let e : line_from 5 text 0 ≡ none = sym l.line-x.ensures.1 ∙ ap (λ x. line_of x row) c.in-Malformed.is in
     read_as _ malformed _ (five-none (line_from 5 text 0) e) (ap (λ q. q.told) c.refused.ensures)
 
 pub five_spec : {M : Type 1} → statement M

@@ -9,21 +9,21 @@ use Rattle.desk_query.proofs.FirstLaws.{first-old, first-five, read_as}
 use Rattle.desk_query.proofs.read.Statement.{statement}
 use Rattle.desk_query.proofs.read.Tie as tie
 
-returns : tie.Need-returns
+returns : tie.Need-returns-in-At
 returns c =
-    let k = c.before in
-    let l = k.before.before.before.before in
-    let row = l.line.new.1.1.0 in
-    let text = l.before.before.before.args.text.now in
-    let e : line_from 7 text 0 ≡ some (record { values = row; next = k.before.x.given.0.0 }) = sym l.line.ensures.1 ∙ ap (λ x. line_of x row) k.before.x.given.1 in
+    let k = c in
+    let l = k in
+    let row = l.line-x.new.into in
+    let text = l.args.text.now in
+    let e : line_from 7 text 0 ≡ some (record { values = row; next = k.in-At.next }) = sym l.line-x.ensures.1 ∙ ap (λ x. line_of x row) k.in-At.is in
     read_as _ old _ (first-old text _ e) (ap (λ q. q.told) c.refused.ensures)
 
-returns-2 : tie.Need-returns-2
+returns-2 : tie.Need-returns-in-Malformed
 returns-2 c =
-    let l = c.before.before.before.before in
-    let row = l.line.new.1.1.0 in
-    let text = l.before.before.before.args.text.now in
-    let e : line_from 7 text 0 ≡ none = sym l.line.ensures.1 ∙ ap (λ x. line_of x row) c.before.enum_told.given.1 in
+    let l = c in
+    let row = l.line-x.new.into in
+    let text = l.args.text.now in
+    let e : line_from 7 text 0 ≡ none = sym l.line-x.ensures.1 ∙ ap (λ x. line_of x row) c.in-Malformed.is in
     read_as _ (as_query (line_from 5 text 0)) _ (first-five text e) c.five.ensures
 
 pub read_spec : {M : Type 1} → statement M

@@ -1,8 +1,5 @@
 -- What is kept after the whole text was fed is that of the text.
 use mathlib.Core.Path.{◌≡◌, ap, ◌∙◌}
-use mathlib.Core.List.{List}
-use Prim.Native.Nat.{ℕ}
-use native.Mathlib.Omega.{arith}
 use lib.ListN.{replicate}
 use borrow.Author.Rules.{rules}
 use Rattle.desk_feed.specs.Taken.{first_bytes, table_bytes, state, state_from, state_of}
@@ -11,14 +8,14 @@ use Rattle.desk_text.proofs.FinishLaws.{room}
 use Rattle.desk_text.proofs.answer.Statement.{statement}
 use Rattle.desk_text.proofs.answer.Tie as tie
 
-abbrev start : tie.After-feed → tie.Start
+abbrev start : tie.After-feed-x → tie.Start
 start f = f.before.before.before.before.before.before
 
-kept : (f : tie.After-feed) → KeptOf f.feed.result f.feed.new.1.1.0 f.feed.new.1.1.1.0 (start f).args.text.now
+kept : (f : tie.After-feed-x) → KeptOf f.feed-x.result f.feed-x.new.first f.feed-x.new.table f.args.text.now
 unfolding state_of
 kept f =
-    let b = f.before.before.before in
-    f.feed.ensures ∙ ap (λ x. state_from (state x (replicate first_bytes 0) (replicate table_bytes 0)) (start f).args.text.now) b.begin.ensures
+    let b = f in
+    f.feed-x.ensures ∙ ap (λ x. state_from (state x (replicate first_bytes 0) (replicate table_bytes 0)) f.args.text.now) b.begin.ensures
 
 pub answer_spec : {M : Type 1} → statement M
 answer_spec =
@@ -30,6 +27,6 @@ answer_spec =
     (λ c κs. room table_bytes)
     (λ c. search rules)
     (λ c. search rules)
-    (λ c κs. let f = c.before.before.before.before.before in ((start f).requires, ((start f).args.text.now, kept f)))
+    (λ c κs. let f = c.before.before.before.before.before in (f.requires, (f.args.text.now, kept f)))
     (λ c. search rules)
-    (λ c. let n = c.before.before.before in let f = n.before.before.before.before.before.before in n.finish.ensures _ (kept f)))
+    (λ c. let n = c in let f = n.before.before.before.before.before.before.before.before.before in n.finish.ensures _ (kept f)))

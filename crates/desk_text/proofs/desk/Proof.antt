@@ -6,11 +6,11 @@ use mathlib.Core.Path.{refl}
 use Rattle.desk_text.proofs.desk.Statement.{statement}
 use Rattle.desk_text.proofs.desk.Tie as tie
 
-returns : tie.Need-returns
-returns c = record { due = λ h. absurd (omega (arith, c.if1.true)); small = λ h. (refl, refl) }
+returns : tie.Need-returns-then-out-lt-MOST_TEXT
+returns c = record { due = λ h. absurd (omega (arith, c.if-out-lt-MOST_TEXT.true)); small = λ h. (refl, refl) }
 
-returns-2 : tie.Need-returns-2
-returns-2 c = record { due = λ h. c.before.before.answer.ensures; small = λ h. absurd (omega (arith, c.before.before.before.before.if1.false)) }
+returns-2 : tie.Need-returns
+returns-2 c = record { due = λ h. c.answer.ensures; small = λ h. absurd (omega (arith, c.if-out-lt-MOST_TEXT.false)) }
 
 pub desk_spec : {M : Type 1} → statement M
 desk_spec = tie.close (tie.spec returns (λ c κs. search rules) (λ c. search rules) returns-2)

@@ -9,27 +9,27 @@ use Rattle.desk_text.specs.Shown.{Gave}
 use Rattle.desk_text.proofs.reply.Statement.{statement}
 use Rattle.desk_text.proofs.reply.Tie as tie
 
-abbrev start : tie.After-core → tie.Start
+abbrev start : tie.After-core-g → tie.Start
 start a = a.before.before.before.before.before
 
-abbrev query : tie.After-core → Input
-query a = read_query (start a).args.x (start a).args.table.now
+abbrev query : tie.After-core-g → Input
+query a = read_query a.args.x a.args.table.now
 
-gave : (a : tie.After-core) → Gave (query a) a.core.result (start a).args.x.nodes (start a).args.x.k a.core.new.1.1.1.1.1.1.1.1.0
-gave a = record { nodes = refl; k = refl; labels = a.core.new.1.1.1.1.1.1.1.0; cored = a.core.ensures }
+gave : (a : tie.After-core-g) → Gave (query a) a.core-g.result a.args.x.nodes a.args.x.k a.core-g.new.area
+gave a = record { nodes = refl; k = refl; labels = a.core-g.new.labels; cored = a.core-g.ensures }
 
-slice-aggregate-show : tie.Need-slice-aggregate-show
+slice-aggregate-show : tie.Need-slice_bounds-show-end
 slice-aggregate-show c = search rules
 
 show-requires : tie.Need-show-requires
 show-requires c κs =
     let a = c.before.before.before.before in
-    ((start a).requires.0, (start a).requires.1, omega (arith, slice-aggregate-show c), (query a, gave a))
+    (a.requires.0, a.requires.1, omega (arith, slice-aggregate-show c), (query a, gave a))
 
 returns : tie.Need-returns
 returns c =
     let a = c.before.before.before.before.before.before.before in
-    c.before.before.show.ensures (query a) (gave a)
+    c.show.ensures (query a) (gave a)
 
 pub reply_spec : {M : Type 1} → statement M
 reply_spec =

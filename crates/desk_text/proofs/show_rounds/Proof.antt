@@ -6,17 +6,17 @@ use Rattle.desk_text.proofs.DeskLaws.{gave-nodes, gave-routes, gave-small, gave-
 use Rattle.desk_text.proofs.show_rounds.Statement.{statement}
 use Rattle.desk_text.proofs.show_rounds.Tie as tie
 
-abbrev start : tie.After-sums → tie.Start
+abbrev start : tie.After-sums-1 → tie.Start
 start c = c.before.before.before.before
 
-sub-w : tie.Need-overflow-sub-w
+sub-w : tie.Need-overflow_sub-w
 sub-w c =
-    let p = (start c).requires in
+    let p = c.requires in
     omega (arith, gave-nodes p.3.0 _ _ _ _ p.3.1.0 p.3.1.1)
 
 ended-requires : tie.Need-ended-requires
 ended-requires c κs =
-    let p = (start c.before).requires in
+    let p = c.requires in
     let i = p.3.0 in
     let x = p.3.1.0 in
     let on = p.3.1.1 in
@@ -29,4 +29,4 @@ show_rounds_spec =
     sub-w
     ended-requires
     (λ c. search rules)
-    (λ c i x on. c.before.before.ended.ensures.1 _ _ (gave-shows i _ _ _ _ x on)))
+    (λ c i x on. c.ended.ensures.1 _ _ (gave-shows i _ _ _ _ x on)))

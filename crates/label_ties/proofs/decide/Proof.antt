@@ -9,6 +9,6 @@ pub decide_spec : {M : Type 1} → statement M
 decide_spec =
     tie.close
     (tie.spec
-    (λ c. sym (lex-less _ _ _ c.if1.true))
-    (λ c. sym (lex-more _ _ _ c.if2.true))
+    (λ c. sym (lex-less _ _ _ c.if-p-q.true))
+    (λ c. sym (lex-more _ _ _ c.if-q-p.true))
     (λ c. sym (lex-even _ _ _ (omega arith) (omega arith))))

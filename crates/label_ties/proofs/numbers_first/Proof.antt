@@ -12,31 +12,31 @@ use Rattle.label_ties.proofs.CutLaws.{cut-lengths, cut-together}
 use Rattle.label_ties.proofs.numbers_first.Statement.{statement}
 use Rattle.label_ties.proofs.numbers_first.Tie as tie
 
-abbrev start : tie.After-lower → tie.Start
+abbrev start : tie.After-lower-d → tie.Start
 start l = l.before.before.before.before
 
-abbrev left : tie.After-lower → List ℕ
+abbrev left : tie.After-lower-d → List ℕ
 left l = chain_at (start l).args.labels.now (start l).args.i
 
-abbrev right : tie.After-lower → List ℕ
+abbrev right : tie.After-lower-d → List ℕ
 right l = chain_at (start l).args.labels.now (start l).args.j
 
 -- how many arcs they have
-left-many : (l : tie.After-lower) → l.before.before.depth.result ≡ length (left l)
-left-many l = let s = start l in l.before.before.depth.ensures ∙ s.pre.0.jumping.depths s.args.i s.pre.1
+left-many : (l : tie.After-lower-d) → l.before.before.depth-k.result ≡ length (left l)
+left-many l = let s = start l in l.before.before.depth-k.ensures ∙ s.requires.0.jumping.depths s.args.i s.requires.1
 
-right-many : (l : tie.After-lower) → l.before.depth2.result ≡ length (right l)
-right-many l = let s = start l in l.before.depth2.ensures ∙ s.pre.0.jumping.depths s.args.j s.pre.2
+right-many : (l : tie.After-lower-d) → l.before.depth-m.result ≡ length (right l)
+right-many l = let s = start l in l.before.depth-m.ensures ∙ s.requires.0.jumping.depths s.args.j s.requires.2
 
 -- the cut is within both chains, and at the end of one
-within-left : (l : tie.After-lower) → l.lower.result ≤ length (left l)
-within-left l = omega (arith, l.lower.ensures.0, left-many l)
+within-left : (l : tie.After-lower-d) → l.lower-d.result ≤ length (left l)
+within-left l = omega (arith, l.lower-d.ensures.0, left-many l)
 
-within-right : (l : tie.After-lower) → l.lower.result ≤ length (right l)
-within-right l = omega (arith, l.lower.ensures.1, right-many l)
+within-right : (l : tie.After-lower-d) → l.lower-d.result ≤ length (right l)
+within-right l = omega (arith, l.lower-d.ensures.1, right-many l)
 
-at-end : (l : tie.After-lower) → (l.lower.result ≡ length (left l)) ⊎ (l.lower.result ≡ length (right l))
-at-end l = ⊎_elim (λ w. inl (w ∙ left-many l)) (λ w. inr (w ∙ right-many l)) l.lower.ensures.2
+at-end : (l : tie.After-lower-d) → (l.lower-d.result ≡ length (left l)) ⊎ (l.lower-d.result ≡ length (right l))
+at-end l = ⊎_elim (λ w. inl (w ∙ left-many l)) (λ w. inr (w ∙ right-many l)) l.lower-d.ensures.2
 
 together-requires : tie.Need-together-requires
 together-requires c κs =
@@ -44,9 +44,9 @@ together-requires c κs =
     let x = y.before in
     let l = x.before in (
       (start l).requires.0,
-      x.climb.ensures.0,
-      y.climb2.ensures.0,
-      cut-lengths (left l) (right l) l.lower.result _ _ (within-left l) (within-right l) x.climb.ensures.1 y.climb2.ensures.1,
+      x.climb-x.ensures.0,
+      y.climb-y.ensures.0,
+      cut-lengths (left l) (right l) l.lower-d.result _ _ (within-left l) (within-right l) x.climb-x.ensures.1 y.climb-y.ensures.1,
     )
 
 returns : tie.Need-returns
@@ -55,9 +55,9 @@ returns c =
     let x = y.before in
     let l = x.before in
     c.together.ensures
-    ∙ cut-together (left l) (right l) l.lower.result _ _ (within-left l) (within-right l) x.climb.ensures.1 y.climb2.ensures.1
+    ∙ cut-together (left l) (right l) l.lower-d.result _ _ (within-left l) (within-right l) x.climb-x.ensures.1 y.climb-y.ensures.1
     (start l).args.a (start l).args.c _ _ _ _ _ (at-end l) (left-many l) (right-many l)
-    x.climb.ensures.2 y.climb2.ensures.2 c.before.decide.ensures
+    x.climb-x.ensures.2 y.climb-y.ensures.2 c.before.decide.ensures
 
 pub numbers_first_spec : {M : Type 1} → statement M
 numbers_first_spec =
@@ -66,8 +66,8 @@ numbers_first_spec =
     (λ c κs. search rules)
     (λ c κs. search rules)
     (λ c κs. search rules)
-    (λ c κs. let s = start c in (s.pre.0.down, s.pre.0.jumping, s.pre.1, within-left c))
-    (λ c κs. let s = start c.before in (s.pre.0.down, s.pre.0.jumping, s.pre.2, within-right c.before))
+    (λ c κs. let s = start c in (s.requires.0.down, s.requires.0.jumping, s.requires.1, within-left c))
+    (λ c κs. let s = start c.before in (s.requires.0.down, s.requires.0.jumping, s.requires.2, within-right c.before))
     (λ c κs. search rules)
     together-requires
     returns)

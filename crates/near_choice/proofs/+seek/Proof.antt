@@ -31,51 +31,51 @@ abbrev claims : ℕ → seek-lts.Claims
 claims t =
     (whole-reads.Asked, whole-reads.Learnt, with-rank-reads.Asked, with-rank-reads.Learnt, hope-reads.Asked, hope-reads.Learnt, seek-below t, seek.Post)
 
-abbrev seek-Inv-loop : seek-lts.invariant-loop
+abbrev seek-Inv-loop : seek-lts.invariant-loop-i
 seek-Inv-loop table nodes list w n room₀ ranks₀ best₀ depth from least found₀ i₀ room ranks best found i =
     (length room ≡ length room₀) × (length ranks ≡ length ranks₀) × (length best ≡ length best₀) × Turning table nodes w n list room₀ ranks₀ best₀ depth from found₀ i room ranks best found
 
-abbrev seek-μ-loop : seek-lts.decreases-loop
+abbrev seek-μ-loop : seek-lts.decreases-loop-i
 seek-μ-loop table nodes list w n room₀ ranks₀ best₀ depth from least found₀ i₀ room ranks best found i = n - i
 
-abbrev start-else : (t : ℕ) → seek-lts.Else1 (claims t) (seek-at t) seek.Post seek-Inv-loop seek-μ-loop → seek-lts.Start (claims t) (seek-at t) seek.Post seek-Inv-loop seek-μ-loop
+abbrev start-else : (t : ℕ) → seek-lts.Else-depth-ranks (claims t) (seek-at t) seek.Post seek-Inv-loop seek-μ-loop → seek-lts.Start (claims t) (seek-at t) seek.Post seek-Inv-loop seek-μ-loop
 start-else t e = e.before.before.before.before.before.before
 
-abbrev start : (t : ℕ) → seek-lts.At-loop (claims t) (seek-at t) seek.Post seek-Inv-loop seek-μ-loop → seek-lts.Start (claims t) (seek-at t) seek.Post seek-Inv-loop seek-μ-loop
+abbrev start : (t : ℕ) → seek-lts.At-loop-i (claims t) (seek-at t) seek.Post seek-Inv-loop seek-μ-loop → seek-lts.Start (claims t) (seek-at t) seek.Post seek-Inv-loop seek-μ-loop
 start t a = start-else t a.before
 
 -- the turn in which a rank was looked at
-abbrev turned : (t : ℕ) → seek-lts.After-with-rank (claims t) (seek-at t) seek.Post seek-Inv-loop seek-μ-loop → seek-lts.In-loop (claims t) (seek-at t) seek.Post seek-Inv-loop seek-μ-loop
-turned t w = w.before.before.before.before
+abbrev turned : (t : ℕ) → seek-lts.After-with_rank-x (claims t) (seek-at t) seek.Post seek-Inv-loop seek-μ-loop → seek-lts.In-loop-i (claims t) (seek-at t) seek.Post seek-Inv-loop seek-μ-loop
+turned t w = w.before.before.before
 
 -- what was found of a rank with which there is hope
-abbrev hoped : (t : ℕ) → seek-lts.Then2 (claims t) (seek-at t) seek.Post seek-Inv-loop seek-μ-loop → seek-lts.After-with-rank (claims t) (seek-at t) seek.Post seek-Inv-loop seek-μ-loop
+abbrev hoped : (t : ℕ) → seek-lts.Then-hope (claims t) (seek-at t) seek.Post seek-Inv-loop seek-μ-loop → seek-lts.After-with_rank-x (claims t) (seek-at t) seek.Post seek-Inv-loop seek-μ-loop
 hoped t h = h.before.before.before.before
 
-abbrev called : (t : ℕ) → seek-lts.After-seek (claims t) (seek-at t) seek.Post seek-Inv-loop seek-μ-loop → seek-lts.Then2 (claims t) (seek-at t) seek.Post seek-Inv-loop seek-μ-loop
+abbrev called : (t : ℕ) → seek-lts.After-seek-found (claims t) (seek-at t) seek.Post seek-Inv-loop seek-μ-loop → seek-lts.Then-hope (claims t) (seek-at t) seek.Post seek-Inv-loop seek-μ-loop
 called t z = z.before.before.before.before
 
 seek-whole-requires : (t : ℕ) → seek-lts.Need-whole-requires (claims t) (seek-at t) seek.Post seek-Inv-loop seek-μ-loop
 seek-whole-requires t c κs =
-    let s = c.before.before.before.before.before.before.before.before in
+    let s = c in
     weigh-asks s.args.table.now s.args.nodes s.args.w s.args.n s.args.list.now s.args.room.now s.args.ranks.now s.args.best.now s.args.depth s.args.from s.args.least s.args.known s.requires.1
 
-seek-returns : (t : ℕ) → seek-lts.Need-returns (claims t) (seek-at t) seek.Post seek-Inv-loop seek-μ-loop
+seek-returns : (t : ℕ) → seek-lts.Need-returns-then-depth-ranks (claims t) (seek-at t) seek.Post seek-Inv-loop seek-μ-loop
 seek-returns t c =
-    let k = c.before.before in
-    let h = k.before.before.before in
-    let s = h.before.before.before.before.before.before in
-    weighed s.args.table.now s.args.nodes s.args.w s.args.n s.args.list.now s.args.room.now s.args.ranks.now s.args.best.now s.args.depth s.args.from s.args.least s.args.known s.requires.1 h.if1.true _ _ k.whole.ensures
+    let k = c in
+    let h = k in
+    let s = h in
+    weighed s.args.table.now s.args.nodes s.args.w s.args.n s.args.list.now s.args.room.now s.args.ranks.now s.args.best.now s.args.depth s.args.from s.args.least s.args.known s.requires.1 h.if-depth-ranks.true _ _ k.whole.ensures
 
-seek-loop-holds : (t : ℕ) → seek-lts.Need-loop-init (claims t) (seek-at t) seek.Post seek-Inv-loop seek-μ-loop
-seek-loop-holds t c = let s = start-else t c in (refl, refl, refl, turn-begin s.args.table.now s.args.nodes s.args.w s.args.n s.args.list.now s.args.room.now s.args.ranks.now s.args.best.now s.args.depth s.args.from s.args.least s.args.known s.pre.1)
+seek-loop-holds : (t : ℕ) → seek-lts.Need-loop-i-init (claims t) (seek-at t) seek.Post seek-Inv-loop seek-μ-loop
+seek-loop-holds t c = let s = start-else t c in (refl, refl, refl, turn-begin s.args.table.now s.args.nodes s.args.w s.args.n s.args.list.now s.args.room.now s.args.ranks.now s.args.best.now s.args.depth s.args.from s.args.least s.args.known s.requires.1)
 
-seek-with-rank-requires : (t : ℕ) → seek-lts.Need-with-rank-requires (claims t) (seek-at t) seek.Post seek-Inv-loop seek-μ-loop
+seek-with-rank-requires : (t : ℕ) → seek-lts.Need-with_rank-x-requires (claims t) (seek-at t) seek.Post seek-Inv-loop seek-μ-loop
 seek-with-rank-requires t c κs =
-    let i = c.before.before.before in
-    let a = i.before in
+    let i = c in
+    let a = i.before.before.before in
     let s = start t a in
-    rank-asks s.args.table.now s.args.nodes s.args.w s.args.n s.args.list.now s.args.room.now s.args.ranks.now s.args.best.now s.args.depth s.args.from s.args.least s.args.known s.pre.1 a.before.if1.false a.loop.i a.loop.room a.loop.ranks a.loop.best a.loop.found a.loop.invariant.3 i.loop-test.true
+    rank-asks s.args.table.now s.args.nodes s.args.w s.args.n s.args.list.now s.args.room.now s.args.ranks.now s.args.best.now s.args.depth s.args.from s.args.least s.args.known s.requires.1 a.if-depth-ranks.false a.loop-i.i a.loop-i.room a.loop-i.ranks a.loop-i.best a.loop-i.found a.loop-i.invariant.3 i.loop-i-test.true
 
 seek-hope-requires : (t : ℕ) → seek-lts.Need-hope-requires (claims t) (seek-at t) seek.Post seek-Inv-loop seek-μ-loop
 seek-hope-requires t c κs =
@@ -83,22 +83,22 @@ seek-hope-requires t c κs =
     let i = turned t w in
     let a = i.before in
     let s = start t a in
-    hope-asks s.args.table.now s.args.nodes s.args.w s.args.n s.args.list.now s.args.room.now s.args.ranks.now s.args.best.now s.args.depth s.args.from s.args.least s.args.known s.pre.1 a.before.if1.left a.loop.i a.loop.room a.loop.ranks a.loop.best a.loop.found a.loop.inv.3 i.loop-test.taken w.with-rank.result _ w.with-rank.ensures.0 w.with-rank.ensures.1 w.with-rank.ensures.2
+    hope-asks s.args.table.now s.args.nodes s.args.w s.args.n s.args.list.now s.args.room.now s.args.ranks.now s.args.best.now s.args.depth s.args.from s.args.least s.args.known s.requires.1 a.if-depth-ranks.false a.loop-i.i a.loop-i.room a.loop-i.ranks a.loop-i.best a.loop-i.found a.loop-i.invariant.3 i.loop-i-test.true w.with_rank-x.result _ w.with_rank-x.ensures.0 w.with_rank-x.ensures.1 w.with_rank-x.ensures.2
 
-seek-seek-requires : (t : ℕ) → seek-lts.Need-seek-requires (claims t) (seek-at t) seek.Post seek-Inv-loop seek-μ-loop
+seek-seek-requires : (t : ℕ) → seek-lts.Need-seek-found-requires (claims t) (seek-at t) seek.Post seek-Inv-loop seek-μ-loop
 seek-seek-requires t c κs =
     let w = hoped t c.before.before.before in
     let i = turned t w in
     let a = i.before in
     let s = start t a in
-    (omega (arith, call-falls s.args.table.now s.args.nodes s.args.w s.args.n s.args.list.now s.args.room.now s.args.ranks.now s.args.best.now s.args.depth s.args.from s.args.least s.args.known s.pre.1 a.before.if1.left a.loop.i a.loop.room a.loop.ranks a.loop.best a.loop.found a.loop.inv.3 i.loop-test.taken w.with-rank.result _ w.with-rank.ensures.0 w.with-rank.ensures.1 w.with-rank.ensures.2, s.pre.0), call_asks s.args.table.now s.args.nodes s.args.w s.args.n s.args.list.now s.args.room.now s.args.ranks.now s.args.best.now s.args.depth s.args.from s.args.least s.args.known s.pre.1 a.before.if1.left a.loop.i a.loop.room a.loop.ranks a.loop.best a.loop.found a.loop.inv.3 i.loop-test.taken w.with-rank.result _ w.with-rank.ensures.0 w.with-rank.ensures.1 w.with-rank.ensures.2 _ (omega (arith, i.loop-test.taken)))
+    (omega (arith, call-falls s.args.table.now s.args.nodes s.args.w s.args.n s.args.list.now s.args.room.now s.args.ranks.now s.args.best.now s.args.depth s.args.from s.args.least s.args.known s.requires.1 a.if-depth-ranks.false a.loop-i.i a.loop-i.room a.loop-i.ranks a.loop-i.best a.loop-i.found a.loop-i.invariant.3 i.loop-i-test.true w.with_rank-x.result _ w.with_rank-x.ensures.0 w.with_rank-x.ensures.1 w.with_rank-x.ensures.2, s.requires.0), call_asks s.args.table.now s.args.nodes s.args.w s.args.n s.args.list.now s.args.room.now s.args.ranks.now s.args.best.now s.args.depth s.args.from s.args.least s.args.known s.requires.1 a.if-depth-ranks.false a.loop-i.i a.loop-i.room a.loop-i.ranks a.loop-i.best a.loop-i.found a.loop-i.invariant.3 i.loop-i-test.true w.with_rank-x.result _ w.with_rank-x.ensures.0 w.with_rank-x.ensures.1 w.with_rank-x.ensures.2 _ (omega (arith, i.loop-i-test.true)))
 
-seek-add-i : (t : ℕ) → seek-lts.Need-overflow-add-i (claims t) (seek-at t) seek.Post seek-Inv-loop seek-μ-loop
+seek-add-i : (t : ℕ) → seek-lts.Need-overflow_add-i-then-hope (claims t) (seek-at t) seek.Post seek-Inv-loop seek-μ-loop
 seek-add-i t c =
     let i = turned t (hoped t (called t c.before.before.before.before.before.before)) in
-    omega (arith, i.loop-test.taken, (start t i.before).good.1.1.1.1.0)
+    omega (arith, i.loop-i-test.true, (start t i.before).well_formed.1.1.1.1.0)
 
-seek-loop-again : (t : ℕ) → seek-lts.Need-loop-preserved (claims t) (seek-at t) seek.Post seek-Inv-loop seek-μ-loop
+seek-loop-again : (t : ℕ) → seek-lts.Need-loop-i-preserved-then-hope (claims t) (seek-at t) seek.Post seek-Inv-loop seek-μ-loop
 seek-loop-again t c =
     let z = c.before.before.before.before.before.before in
     let h = called t z in
@@ -106,24 +106,24 @@ seek-loop-again t c =
     let i = turned t w in
     let a = i.before in
     let s = start t a in
-    let g = went_on s.args.table.now s.args.nodes s.args.w s.args.n s.args.list.now s.args.room.now s.args.ranks.now s.args.best.now s.args.depth s.args.from s.args.least s.args.known s.pre.1 a.before.if1.left a.loop.i a.loop.room a.loop.ranks a.loop.best a.loop.found a.loop.inv.3 i.loop-test.taken w.with-rank.result _ w.with-rank.ensures.0 w.with-rank.ensures.1 w.with-rank.ensures.2 (sym h.before.hope.ensures ∙ h.if2.taken) _ _ _ _ z.seek.ensures in
+    let g = went_on s.args.table.now s.args.nodes s.args.w s.args.n s.args.list.now s.args.room.now s.args.ranks.now s.args.best.now s.args.depth s.args.from s.args.least s.args.known s.requires.1 a.if-depth-ranks.false a.loop-i.i a.loop-i.room a.loop-i.ranks a.loop-i.best a.loop-i.found a.loop-i.invariant.3 i.loop-i-test.true w.with_rank-x.result _ w.with_rank-x.ensures.0 w.with_rank-x.ensures.1 w.with_rank-x.ensures.2 (sym h.hope.ensures ∙ h.if-hope.true) _ _ _ _ z.seek-found.ensures in
     (g.room-long, g.ranks-long, g.best-long, g)
 
-seek-loop-again-2 : (t : ℕ) → seek-lts.Need-loop-preserved-2 (claims t) (seek-at t) seek.Post seek-Inv-loop seek-μ-loop
+seek-loop-again-2 : (t : ℕ) → seek-lts.Need-loop-i-preserved (claims t) (seek-at t) seek.Post seek-Inv-loop seek-μ-loop
 seek-loop-again-2 t c =
-    let h = c.before in
-    let w = h.before.before.before in
+    let h = c in
+    let w = h.before.before.before.before in
     let i = turned t w in
     let a = i.before in
     let s = start t a in
-    let g = skipped s.args.table.now s.args.nodes s.args.w s.args.n s.args.list.now s.args.room.now s.args.ranks.now s.args.best.now s.args.depth s.args.from s.args.least s.args.known s.pre.1 a.before.if1.left a.loop.i a.loop.room a.loop.ranks a.loop.best a.loop.found a.loop.inv.3 i.loop-test.taken w.with-rank.result _ w.with-rank.ensures.0 w.with-rank.ensures.1 w.with-rank.ensures.2 (sym h.hope.ensures ∙ c.if2.false) in
+    let g = skipped s.args.table.now s.args.nodes s.args.w s.args.n s.args.list.now s.args.room.now s.args.ranks.now s.args.best.now s.args.depth s.args.from s.args.least s.args.known s.requires.1 a.if-depth-ranks.false a.loop-i.i a.loop-i.room a.loop-i.ranks a.loop-i.best a.loop-i.found a.loop-i.invariant.3 i.loop-i-test.true w.with_rank-x.result _ w.with_rank-x.ensures.0 w.with_rank-x.ensures.1 w.with_rank-x.ensures.2 (sym h.hope.ensures ∙ c.if-hope.false) in
     (g.room-long, g.ranks-long, g.best-long, g)
 
-seek-returns-2 : (t : ℕ) → seek-lts.Need-returns-2 (claims t) (seek-at t) seek.Post seek-Inv-loop seek-μ-loop
+seek-returns-2 : (t : ℕ) → seek-lts.Need-returns (claims t) (seek-at t) seek.Post seek-Inv-loop seek-μ-loop
 seek-returns-2 t c =
     let a = c.before in
     let s = start t a in
-    turn-done s.args.table.now s.args.nodes s.args.w s.args.n s.args.list.now s.args.room.now s.args.ranks.now s.args.best.now s.args.depth s.args.from s.args.least s.args.known s.pre.1 a.before.if1.false a.loop.i a.loop.room a.loop.ranks a.loop.best a.loop.found a.loop.invariant.3 (omega (arith, c.loop-test.false))
+    turn-done s.args.table.now s.args.nodes s.args.w s.args.n s.args.list.now s.args.room.now s.args.ranks.now s.args.best.now s.args.depth s.args.from s.args.least s.args.known s.requires.1 a.if-depth-ranks.false a.loop-i.i a.loop-i.room a.loop-i.ranks a.loop-i.best a.loop-i.found a.loop-i.invariant.3 (omega (arith, c.loop-i-test.false))
 
 pub +seek_spec : {M : Type 1} → statement M
 +seek_spec = close μ-seek λ t. seek-lts.spec (claims t)

@@ -4,19 +4,19 @@ use Rattle.near_choice.proofs.SeekLaws.{seek-asks, all-chosen}
 use Rattle.near_choice.proofs.choose.Statement.{statement}
 use Rattle.near_choice.proofs.choose.Tie as tie
 
-abbrev start : tie.After-seek-arg3 → tie.Start
+abbrev start : tie.After-seek-arg-3-1 → tie.Start
 start c = c.before.before.before.before.before.before.before.before
 
 seek-requires : tie.Need-seek-requires
 seek-requires c κs =
     let s = start c in
-    seek-asks s.args.table.now s.args.nodes s.args.w s.args.n s.args.list.now s.args.room.now s.args.ranks.now s.args.best.now s.pre.0 s.pre.1 s.pre.2
+    seek-asks s.args.table.now s.args.nodes s.args.w s.args.n s.args.list.now s.args.room.now s.args.ranks.now s.args.best.now s.requires.0 s.requires.1 s.requires.2
 
 returns : tie.Need-returns
 returns c =
-    let z = c.before.before.before.before.before.before in
-    let s = start z.before in (
-      all-chosen s.args.table.now s.args.nodes s.args.w s.args.n s.args.list.now s.args.room.now s.args.ranks.now s.args.best.now s.pre.0 s.pre.1 s.pre.2 s.pre.3 _ _ _ _ z.seek.ensures,
+    let z = c in
+    let s = start z.before.before.before.before.before.before.before in (
+      all-chosen s.args.table.now s.args.nodes s.args.w s.args.n s.args.list.now s.args.room.now s.args.ranks.now s.args.best.now s.requires.0 s.requires.1 s.requires.2 s.requires.3 _ _ _ _ z.seek.ensures,
       z.seek.ensures.room-long,
     )
 

@@ -5,14 +5,14 @@ use borrow.Author.Rules.{rules}
 use Rattle.near_choice.proofs.whole.Statement.{statement}
 use Rattle.near_choice.proofs.whole.Tie as tie
 
-returns : tie.Need-returns
+returns : tie.Need-returns-then-hope
 returns c =
-    let k = c.before.before in
-    let h = k.before.before in
-    inl (sym h.before.hope.ensures ∙ h.if1.true, k.copy.ensures, refl)
+    let k = c in
+    let h = k in
+    inl (sym h.hope.ensures ∙ h.if-hope.true, k.copy.ensures, refl)
 
-returns-2 : tie.Need-returns-2
-returns-2 c = inr (sym c.before.hope.ensures ∙ c.if1.false, refl, refl)
+returns-2 : tie.Need-returns
+returns-2 c = inr (sym c.hope.ensures ∙ c.if-hope.false, refl, refl)
 
 pub whole_spec : {M : Type 1} → statement M
 whole_spec = tie.close (tie.spec (λ c κs. search rules) (λ c κs. search rules) (λ c. search rules) returns returns-2)

@@ -37,180 +37,180 @@ abbrev claims : ℕ → deeper-lts.Claims
 claims t =
     (arrive-reads.Asked, arrive-reads.Learnt, run-start-reads.Asked, run-start-reads.Learnt, goes-reads.Asked, goes-reads.Learnt, to-of-reads.Asked, to-of-reads.Learnt, length-of-reads.Asked, length-of-reads.Learnt, enter-reads.Asked, enter-reads.Learnt, deeper-below t, deeper.Post, leave-reads.Asked, leave-reads.Learnt)
 
-abbrev deeper-Inv-loop : deeper-lts.invariant-loop
+abbrev deeper-Inv-loop : deeper-lts.invariant-loop-a
 deeper-Inv-loop table closed x list₀ path₀ room₀ depth v size n nodes slots end found₀ a₀ list path room found a =
     (run_start table v ≤ a) × (length list ≡ length list₀) × (length path ≡ length path₀) × (length room ≡ length room₀) × Turning x table closed list₀ path₀ room₀ depth n a end list path room found
 
-abbrev deeper-μ-loop : deeper-lts.decreases-loop
+abbrev deeper-μ-loop : deeper-lts.decreases-loop-a
 deeper-μ-loop table closed x list₀ path₀ room₀ depth v size n nodes slots end found₀ a₀ list path room found a = end - a
 
-abbrev start-else : (t : ℕ) → deeper-lts.Else1 (claims t) (deeper-at t) deeper.Post deeper-Inv-loop deeper-μ-loop → deeper-lts.Start (claims t) (deeper-at t) deeper.Post deeper-Inv-loop deeper-μ-loop
+abbrev start-else : (t : ℕ) → deeper-lts.Else-v-x (claims t) (deeper-at t) deeper.Post deeper-Inv-loop deeper-μ-loop → deeper-lts.Start (claims t) (deeper-at t) deeper.Post deeper-Inv-loop deeper-μ-loop
 start-else t e = e.before.before.before.before.before.before.before
 
-abbrev start : (t : ℕ) → deeper-lts.At-loop (claims t) (deeper-at t) deeper.Post deeper-Inv-loop deeper-μ-loop → deeper-lts.Start (claims t) (deeper-at t) deeper.Post deeper-Inv-loop deeper-μ-loop
+abbrev start : (t : ℕ) → deeper-lts.At-loop-a (claims t) (deeper-at t) deeper.Post deeper-Inv-loop deeper-μ-loop → deeper-lts.Start (claims t) (deeper-at t) deeper.Post deeper-Inv-loop deeper-μ-loop
 start t a = start-else t a.before.before.before
 
-abbrev ending : (t : ℕ) → deeper-lts.At-loop (claims t) (deeper-at t) deeper.Post deeper-Inv-loop deeper-μ-loop → ℕ
-ending t a = a.before.before.run-start.result
+abbrev ending : (t : ℕ) → deeper-lts.At-loop-a (claims t) (deeper-at t) deeper.Post deeper-Inv-loop deeper-μ-loop → ℕ
+ending t a = a.run_start-end.result
 
-ending-is : (t : ℕ) (a : deeper-lts.At-loop (claims t) (deeper-at t) deeper.Post deeper-Inv-loop deeper-μ-loop) → ending t a ≡ run_start (start t a).args.table.now ((start t a).args.v + 1)
-ending-is t a = a.before.before.run-start.ensures
+ending-is : (t : ℕ) (a : deeper-lts.At-loop-a (claims t) (deeper-at t) deeper.Post deeper-Inv-loop deeper-μ-loop) → ending t a ≡ run_start (start t a).args.table.now ((start t a).args.v + 1)
+ending-is t a = a.run_start-end.ensures
 
-abbrev called : (t : ℕ) → deeper-lts.After-deeper (claims t) (deeper-at t) deeper.Post deeper-Inv-loop deeper-μ-loop → deeper-lts.After-enter (claims t) (deeper-at t) deeper.Post deeper-Inv-loop deeper-μ-loop
+abbrev called : (t : ℕ) → deeper-lts.After-deeper-found (claims t) (deeper-at t) deeper.Post deeper-Inv-loop deeper-μ-loop → deeper-lts.After-enter (claims t) (deeper-at t) deeper.Post deeper-Inv-loop deeper-μ-loop
 called t z = z.before.before.before.before.before.before.before.before
 
 deeper-arrive-requires : (t : ℕ) → deeper-lts.Need-arrive-requires (claims t) (deeper-at t) deeper.Post deeper-Inv-loop deeper-μ-loop
 deeper-arrive-requires t c κs =
-    let s = c.before.before.before.before.before.before.before.before.before in
+    let s = c in
     arrive-asks s.args.x s.args.table.now s.args.closed.now s.args.list.now s.args.path.now s.args.room.now s.args.depth s.args.v s.args.size s.args.n s.requires.1
 
-deeper-returns : (t : ℕ) → deeper-lts.Need-returns (claims t) (deeper-at t) deeper.Post deeper-Inv-loop deeper-μ-loop
+deeper-returns : (t : ℕ) → deeper-lts.Need-returns-then-v-x (claims t) (deeper-at t) deeper.Post deeper-Inv-loop deeper-μ-loop
 deeper-returns t c =
-    let k = c.before.before in
-    let h = k.before.before.before in
-    let s = h.before.before.before.before.before.before.before in
-    arrived s.args.x s.args.table.now s.args.closed.now s.args.list.now s.args.path.now s.args.room.now s.args.depth s.args.v s.args.size s.args.n s.requires.1 h.if1.true _ _ k.arrive.ensures
+    let k = c in
+    let h = k in
+    let s = h in
+    arrived s.args.x s.args.table.now s.args.closed.now s.args.list.now s.args.path.now s.args.room.now s.args.depth s.args.v s.args.size s.args.n s.requires.1 h.if-v-x.true _ _ k.arrive.ensures
 
-deeper-add-run-start : (t : ℕ) → deeper-lts.Need-overflow-add-run-start (claims t) (deeper-at t) deeper.Post deeper-Inv-loop deeper-μ-loop
+deeper-add-run-start : (t : ℕ) → deeper-lts.Need-overflow_add-v (claims t) (deeper-at t) deeper.Post deeper-Inv-loop deeper-μ-loop
 deeper-add-run-start t c =
-    let s = c.before.before.before.before.before.before.before in
+    let s = c in
     omega (arith, next-node s.args.x s.args.table.now s.args.closed.now s.args.list.now s.args.path.now s.args.room.now s.args.depth s.args.v s.args.size s.args.n s.requires.1)
 
-deeper-run-start-requires : (t : ℕ) → deeper-lts.Need-run-start-requires (claims t) (deeper-at t) deeper.Post deeper-Inv-loop deeper-μ-loop
+deeper-run-start-requires : (t : ℕ) → deeper-lts.Need-run_start-end-requires (claims t) (deeper-at t) deeper.Post deeper-Inv-loop deeper-μ-loop
 deeper-run-start-requires t c κs = (start-else t c).requires.1.fine
 
-deeper-run-start-requires-2 : (t : ℕ) → deeper-lts.Need-run-start-requires-2 (claims t) (deeper-at t) deeper.Post deeper-Inv-loop deeper-μ-loop
-deeper-run-start-requires-2 t c κs = (start-else t c.before).pre.1.fine
+deeper-run-start-requires-2 : (t : ℕ) → deeper-lts.Need-run_start-a-requires (claims t) (deeper-at t) deeper.Post deeper-Inv-loop deeper-μ-loop
+deeper-run-start-requires-2 t c κs = (start-else t c.before).requires.1.fine
 
-deeper-loop-holds : (t : ℕ) → deeper-lts.Need-loop-init (claims t) (deeper-at t) deeper.Post deeper-Inv-loop deeper-μ-loop
+deeper-loop-holds : (t : ℕ) → deeper-lts.Need-loop-a-init (claims t) (deeper-at t) deeper.Post deeper-Inv-loop deeper-μ-loop
 deeper-loop-holds t c =
-    let k = c.before in
-    let e = k.before in
+    let k = c in
+    let e = k.before.before in
     let s = start-else t e in
-    let y = turn-begin s.args.x s.args.table.now s.args.closed.now s.args.list.now s.args.path.now s.args.room.now s.args.depth s.args.v s.args.size s.args.n s.pre.1 c.run-start2.result k.run-start.result c.run-start2.ensures k.run-start.ensures e.if1.false in
+    let y = turn-begin s.args.x s.args.table.now s.args.closed.now s.args.list.now s.args.path.now s.args.room.now s.args.depth s.args.v s.args.size s.args.n s.requires.1 c.run_start-a.result k.run_start-end.result c.run_start-a.ensures k.run_start-end.ensures e.if-v-x.false in
     (y.0, refl, refl, refl, y.1)
 
 deeper-goes-requires : (t : ℕ) → deeper-lts.Need-goes-requires (claims t) (deeper-at t) deeper.Post deeper-Inv-loop deeper-μ-loop
 deeper-goes-requires t c κs =
-    let i = c.before in
+    let i = c in
     let a = i.before in
     let s = start t a in
-    goes-asks s.args.x s.args.table.now s.args.closed.now s.args.list.now s.args.path.now s.args.room.now s.args.depth s.args.v s.args.size s.args.n s.pre.1 a.loop.a (ending t a) a.loop.list a.loop.path a.loop.room a.loop.found a.loop.invariant.4 i.loop-test.true (ending-is t a) a.loop.invariant.0
+    goes-asks s.args.x s.args.table.now s.args.closed.now s.args.list.now s.args.path.now s.args.room.now s.args.depth s.args.v s.args.size s.args.n s.requires.1 a.loop-a.a (ending t a) a.loop-a.list a.loop-a.path a.loop-a.room a.loop-a.found a.loop-a.invariant.4 i.loop-a-test.true (ending-is t a) a.loop-a.invariant.0
 
-deeper-to-of-requires : (t : ℕ) → deeper-lts.Need-to-of-requires (claims t) (deeper-at t) deeper.Post deeper-Inv-loop deeper-μ-loop
+deeper-to-of-requires : (t : ℕ) → deeper-lts.Need-to_of-u-requires (claims t) (deeper-at t) deeper.Post deeper-Inv-loop deeper-μ-loop
 deeper-to-of-requires t c κs =
-    let i = c.before.before.before in
-    let a = i.before in
+    let i = c in
+    let a = i.before.before.before in
     let s = start t a in
-    (goes-asks s.args.x s.args.table.now s.args.closed.now s.args.list.now s.args.path.now s.args.room.now s.args.depth s.args.v s.args.size s.args.n s.pre.1 a.loop.a (ending t a) a.loop.list a.loop.path a.loop.room a.loop.found a.loop.invariant.4 i.loop-test.true (ending-is t a) a.loop.invariant.0).1
+    (goes-asks s.args.x s.args.table.now s.args.closed.now s.args.list.now s.args.path.now s.args.room.now s.args.depth s.args.v s.args.size s.args.n s.requires.1 a.loop-a.a (ending t a) a.loop-a.list a.loop-a.path a.loop-a.room a.loop-a.found a.loop-a.invariant.4 i.loop-a-test.true (ending-is t a) a.loop-a.invariant.0).1
 
-deeper-length-of-requires : (t : ℕ) → deeper-lts.Need-length-of-requires (claims t) (deeper-at t) deeper.Post deeper-Inv-loop deeper-μ-loop
+deeper-length-of-requires : (t : ℕ) → deeper-lts.Need-length_of-requires (claims t) (deeper-at t) deeper.Post deeper-Inv-loop deeper-μ-loop
 deeper-length-of-requires t c κs = deeper-to-of-requires t c.before κs
 
-deeper-add-on : (t : ℕ) → deeper-lts.Need-overflow-add-on (claims t) (deeper-at t) deeper.Post deeper-Inv-loop deeper-μ-loop
+deeper-add-on : (t : ℕ) → deeper-lts.Need-overflow_add-on (claims t) (deeper-at t) deeper.Post deeper-Inv-loop deeper-μ-loop
 deeper-add-on t c =
-    let s = start t c.before.before.before.before.before.before in
-    omega (arith, size_below s.args.x s.args.table.now s.args.closed.now s.args.list.now s.args.path.now s.args.room.now s.args.depth s.args.v s.args.size s.args.n s.pre.1)
+    let s = start t c.before.before.before.before.before in
+    omega (arith, size_below s.args.x s.args.table.now s.args.closed.now s.args.list.now s.args.path.now s.args.room.now s.args.depth s.args.v s.args.size s.args.n s.requires.1)
 
 deeper-enter-requires : (t : ℕ) → deeper-lts.Need-enter-requires (claims t) (deeper-at t) deeper.Post deeper-Inv-loop deeper-μ-loop
 deeper-enter-requires t c κs =
-    let y = c.before.before in
-    let h = y.before.before in
-    let k = h.before in
-    let i = k.before.before in
-    let a = i.before in
+    let y = c in
+    let h = y in
+    let k = h in
+    let i = k in
+    let a = i.before.before.before.before.before.before.before in
     let s = start t a in
-    enter-asks s.args.x s.args.table.now s.args.closed.now s.args.list.now s.args.path.now s.args.room.now s.args.depth s.args.v s.args.size s.args.n s.pre.1 a.loop.a (ending t a) a.loop.list a.loop.path a.loop.room a.loop.found a.loop.invariant.4 i.loop-test.true (ending-is t a) a.loop.invariant.0 (sym k.goes.ensures ∙ h.if2.true) y.before.to-of.result y.before.to-of.ensures
+    enter-asks s.args.x s.args.table.now s.args.closed.now s.args.list.now s.args.path.now s.args.room.now s.args.depth s.args.v s.args.size s.args.n s.requires.1 a.loop-a.a (ending t a) a.loop-a.list a.loop-a.path a.loop-a.room a.loop-a.found a.loop-a.invariant.4 i.loop-a-test.true (ending-is t a) a.loop-a.invariant.0 (sym k.goes.ensures ∙ h.if-goes.true) y.to_of-u.result y.to_of-u.ensures
 
-deeper-add-deeper : (t : ℕ) → deeper-lts.Need-overflow-add-deeper (claims t) (deeper-at t) deeper.Post deeper-Inv-loop deeper-μ-loop
+deeper-add-deeper : (t : ℕ) → deeper-lts.Need-overflow_add-depth (claims t) (deeper-at t) deeper.Post deeper-Inv-loop deeper-μ-loop
 deeper-add-deeper t c =
-    let y = c.before.before.before.before.before.before.before.before.before.before in
-    let s = start t y.before.before.before.before.before.before in
-    omega (arith, next-depth s.args.x s.args.table.now s.args.closed.now s.args.list.now s.args.path.now s.args.room.now s.args.depth s.args.v s.args.size s.args.n s.pre.1)
+    let y = c in
+    let s = start t y.before.before.before.before.before.before.before.before.before.before.before.before.before.before.before in
+    omega (arith, next-depth s.args.x s.args.table.now s.args.closed.now s.args.list.now s.args.path.now s.args.room.now s.args.depth s.args.v s.args.size s.args.n s.requires.1)
 
-deeper-deeper-requires : (t : ℕ) → deeper-lts.Need-deeper-requires (claims t) (deeper-at t) deeper.Post deeper-Inv-loop deeper-μ-loop
+deeper-deeper-requires : (t : ℕ) → deeper-lts.Need-deeper-found-requires (claims t) (deeper-at t) deeper.Post deeper-Inv-loop deeper-μ-loop
 deeper-deeper-requires t c κs =
-    let f = c.before.before.before.before.before.before.before in
-    let y = f.before.before.before in
-    let h = y.before.before in
-    let k = h.before in
-    let i = k.before.before in
-    let a = i.before in
+    let f = c in
+    let y = f in
+    let h = y in
+    let k = h in
+    let i = k in
+    let a = i.before.before.before.before.before.before.before.before.before.before.before.before.before.before.before in
     let s = start t a in (
-      omega (arith, call-falls s.args.x s.args.table.now s.args.closed.now s.args.list.now s.args.path.now s.args.room.now s.args.depth s.args.v s.args.size s.args.n s.pre.1 a.loop.a (ending t a) a.loop.list a.loop.path a.loop.room a.loop.found a.loop.invariant.4 i.loop-test.true (ending-is t a) a.loop.invariant.0 (sym k.goes.ensures ∙ h.if2.true) f.enter.new.0 f.enter.new.1.0 y.before.to-of.result y.length-of.result f.enter.ensures.0 f.enter.ensures.1 y.before.to-of.ensures y.length-of.ensures, s.pre.0),
-      call_asks s.args.x s.args.table.now s.args.closed.now s.args.list.now s.args.path.now s.args.room.now s.args.depth s.args.v s.args.size s.args.n s.pre.1 a.loop.a (ending t a) a.loop.list a.loop.path a.loop.room a.loop.found a.loop.invariant.4 i.loop-test.true (ending-is t a) a.loop.invariant.0 (sym k.goes.ensures ∙ h.if2.true) f.enter.new.0 f.enter.new.1.0 y.before.to-of.result y.length-of.result f.enter.ensures.0 f.enter.ensures.1 y.before.to-of.ensures y.length-of.ensures,
+      omega (arith, call-falls s.args.x s.args.table.now s.args.closed.now s.args.list.now s.args.path.now s.args.room.now s.args.depth s.args.v s.args.size s.args.n s.requires.1 a.loop-a.a (ending t a) a.loop-a.list a.loop-a.path a.loop-a.room a.loop-a.found a.loop-a.invariant.4 i.loop-a-test.true (ending-is t a) a.loop-a.invariant.0 (sym k.goes.ensures ∙ h.if-goes.true) f.enter.new.path f.enter.new.room y.to_of-u.result y.length_of.result f.enter.ensures.0 f.enter.ensures.1 y.to_of-u.ensures y.length_of.ensures, s.requires.0),
+      call_asks s.args.x s.args.table.now s.args.closed.now s.args.list.now s.args.path.now s.args.room.now s.args.depth s.args.v s.args.size s.args.n s.requires.1 a.loop-a.a (ending t a) a.loop-a.list a.loop-a.path a.loop-a.room a.loop-a.found a.loop-a.invariant.4 i.loop-a-test.true (ending-is t a) a.loop-a.invariant.0 (sym k.goes.ensures ∙ h.if-goes.true) f.enter.new.path f.enter.new.room y.to_of-u.result y.length_of.result f.enter.ensures.0 f.enter.ensures.1 y.to_of-u.ensures y.length_of.ensures,
     )
 
 deeper-leave-requires : (t : ℕ) → deeper-lts.Need-leave-requires (claims t) (deeper-at t) deeper.Post deeper-Inv-loop deeper-μ-loop
 deeper-leave-requires t c κs =
     let z = c.before.before.before.before.before.before.before in
     let f = called t z in
-    let y = f.before.before.before in
-    let h = y.before.before in
-    let k = h.before in
-    let i = k.before.before in
-    let a = i.before in
+    let y = f in
+    let h = y in
+    let k = h in
+    let i = k in
+    let a = i.before.before.before.before.before.before.before.before in
     let s = start t a in
-    leave-asks s.args.x s.args.table.now s.args.closed.now s.args.list.now s.args.path.now s.args.room.now s.args.depth s.args.v s.args.size s.args.n s.pre.1 a.loop.a (ending t a) a.loop.list a.loop.path a.loop.room a.loop.found a.loop.inv.4 i.loop-test.taken (ending-is t a) a.loop.inv.0 (sym k.goes.ensures ∙ h.if2.taken) f.enter.last.0 f.enter.last.1.0 y.before.to-of.result y.length-of.result f.enter.ensures.0 f.enter.ensures.1 y.before.to-of.ensures y.length-of.ensures _ _ _ _ z.deeper.ensures
+    leave-asks s.args.x s.args.table.now s.args.closed.now s.args.list.now s.args.path.now s.args.room.now s.args.depth s.args.v s.args.size s.args.n s.requires.1 a.loop-a.a (ending t a) a.loop-a.list a.loop-a.path a.loop-a.room a.loop-a.found a.loop-a.invariant.4 i.loop-a-test.true (ending-is t a) a.loop-a.invariant.0 (sym k.goes.ensures ∙ h.if-goes.true) f.enter.new.path f.enter.new.room y.to_of-u.result y.length_of.result f.enter.ensures.0 f.enter.ensures.1 y.to_of-u.ensures y.length_of.ensures _ _ _ _ z.deeper-found.ensures
 
-deeper-returns-2 : (t : ℕ) → deeper-lts.Need-returns-2 (claims t) (deeper-at t) deeper.Post deeper-Inv-loop deeper-μ-loop
+deeper-returns-2 : (t : ℕ) → deeper-lts.Need-returns-then-slots-found (claims t) (deeper-at t) deeper.Post deeper-Inv-loop deeper-μ-loop
 deeper-returns-2 t c =
-    let o = c.before.before.before in
-    let z = o.before.before.before.before.before.before.before.before in
+    let o = c in
+    let z = o.before.before.before.before.before.before.before.before.before.before.before in
     let f = called t z in
-    let y = f.before.before.before in
-    let h = y.before.before in
-    let k = h.before in
-    let i = k.before.before in
-    let a = i.before in
+    let y = f in
+    let h = y in
+    let k = h in
+    let i = k in
+    let a = i.before.before.before.before.before.before.before.before in
     let s = start t a in
-    went-over s.args.x s.args.table.now s.args.closed.now s.args.list.now s.args.path.now s.args.room.now s.args.depth s.args.v s.args.size s.args.n s.pre.1 a.loop.a (ending t a) a.loop.list a.loop.path a.loop.room a.loop.found a.loop.inv.4 i.loop-test.taken (ending-is t a) a.loop.inv.0 (sym k.goes.ensures ∙ h.if2.taken) f.enter.last.0 f.enter.last.1.0 y.before.to-of.result y.length-of.result f.enter.ensures.0 f.enter.ensures.1 y.before.to-of.ensures y.length-of.ensures _ _ _ _ z.deeper.ensures _ o.leave.ensures c.if3.true
+    went-over s.args.x s.args.table.now s.args.closed.now s.args.list.now s.args.path.now s.args.room.now s.args.depth s.args.v s.args.size s.args.n s.requires.1 a.loop-a.a (ending t a) a.loop-a.list a.loop-a.path a.loop-a.room a.loop-a.found a.loop-a.invariant.4 i.loop-a-test.true (ending-is t a) a.loop-a.invariant.0 (sym k.goes.ensures ∙ h.if-goes.true) f.enter.new.path f.enter.new.room y.to_of-u.result y.length_of.result f.enter.ensures.0 f.enter.ensures.1 y.to_of-u.ensures y.length_of.ensures _ _ _ _ z.deeper-found.ensures _ o.leave.ensures c.if-slots-found.true
 
 -- the turn in which the call was made
-abbrev turned : (t : ℕ) → deeper-lts.Else3 (claims t) (deeper-at t) deeper.Post deeper-Inv-loop deeper-μ-loop → deeper-lts.In-loop (claims t) (deeper-at t) deeper.Post deeper-Inv-loop deeper-μ-loop
+abbrev turned : (t : ℕ) → deeper-lts.Else-slots-found (claims t) (deeper-at t) deeper.Post deeper-Inv-loop deeper-μ-loop → deeper-lts.In-loop-a (claims t) (deeper-at t) deeper.Post deeper-Inv-loop deeper-μ-loop
 turned t c =
-    let o = c.before.before.before in
-    let z = o.before.before.before.before.before.before.before.before in
-    (called t z).before.before.before.before.before.before.before.before
+    let o = c in
+    let z = o.before.before.before.before.before.before.before.before.before.before.before in
+    (called t z).before.before.before.before.before.before.before
 
-deeper-add-a : (t : ℕ) → deeper-lts.Need-overflow-add-a (claims t) (deeper-at t) deeper.Post deeper-Inv-loop deeper-μ-loop
+deeper-add-a : (t : ℕ) → deeper-lts.Need-overflow_add-a (claims t) (deeper-at t) deeper.Post deeper-Inv-loop deeper-μ-loop
 deeper-add-a t c =
     let i = turned t c in
     let a = i.before in
     let s = start t a in
-    omega (arith, (goes-asks s.args.x s.args.table.now s.args.closed.now s.args.list.now s.args.path.now s.args.room.now s.args.depth s.args.v s.args.size s.args.n s.pre.1 a.loop.a (ending t a) a.loop.list a.loop.path a.loop.room a.loop.found a.loop.inv.4 i.loop-test.taken (ending-is t a) a.loop.inv.0).1, (good-size s.args.x.nodes s.args.table.now s.pre.1.fine).3)
+    omega (arith, (goes-asks s.args.x s.args.table.now s.args.closed.now s.args.list.now s.args.path.now s.args.room.now s.args.depth s.args.v s.args.size s.args.n s.requires.1 a.loop-a.a (ending t a) a.loop-a.list a.loop-a.path a.loop-a.room a.loop-a.found a.loop-a.invariant.4 i.loop-a-test.true (ending-is t a) a.loop-a.invariant.0).1, (good-size s.args.x.nodes s.args.table.now s.requires.1.fine).3)
 
-deeper-loop-less : (t : ℕ) → deeper-lts.Need-loop-smaller (claims t) (deeper-at t) deeper.Post deeper-Inv-loop deeper-μ-loop
-deeper-loop-less t c = omega (arith, (turned t c).loop-test.true)
+deeper-loop-less : (t : ℕ) → deeper-lts.Need-loop-a-smaller-then-goes (claims t) (deeper-at t) deeper.Post deeper-Inv-loop deeper-μ-loop
+deeper-loop-less t c = omega (arith, (turned t c).loop-a-test.true)
 
-deeper-loop-again : (t : ℕ) → deeper-lts.Need-loop-preserved (claims t) (deeper-at t) deeper.Post deeper-Inv-loop deeper-μ-loop
+deeper-loop-again : (t : ℕ) → deeper-lts.Need-loop-a-preserved-then-goes (claims t) (deeper-at t) deeper.Post deeper-Inv-loop deeper-μ-loop
 deeper-loop-again t c =
-    let o = c.before.before.before in
-    let z = o.before.before.before.before.before.before.before.before in
+    let o = c in
+    let z = o.before.before.before.before.before.before.before.before.before.before.before in
     let f = called t z in
-    let y = f.before.before.before in
-    let h = y.before.before in
-    let k = h.before in
-    let i = k.before.before in
-    let a = i.before in
+    let y = f in
+    let h = y in
+    let k = h in
+    let i = k in
+    let a = i.before.before.before.before.before.before.before.before in
     let s = start t a in
-    let g = went_on s.args.x s.args.table.now s.args.closed.now s.args.list.now s.args.path.now s.args.room.now s.args.depth s.args.v s.args.size s.args.n s.pre.1 a.loop.a (ending t a) a.loop.list a.loop.path a.loop.room a.loop.found a.loop.inv.4 i.loop-test.taken (ending-is t a) a.loop.inv.0 (sym k.goes.ensures ∙ h.if2.taken) f.enter.last.0 f.enter.last.1.0 y.before.to-of.result y.length-of.result f.enter.ensures.0 f.enter.ensures.1 y.before.to-of.ensures y.length-of.ensures _ _ _ _ z.deeper.ensures _ o.leave.ensures (omega (arith, c.if3.false)) in
-    (omega (arith, a.loop.inv.0), g.list-long, g.path-long, g.room.long, g)
+    let g = went_on s.args.x s.args.table.now s.args.closed.now s.args.list.now s.args.path.now s.args.room.now s.args.depth s.args.v s.args.size s.args.n s.requires.1 a.loop-a.a (ending t a) a.loop-a.list a.loop-a.path a.loop-a.room a.loop-a.found a.loop-a.invariant.4 i.loop-a-test.true (ending-is t a) a.loop-a.invariant.0 (sym k.goes.ensures ∙ h.if-goes.true) f.enter.new.path f.enter.new.room y.to_of-u.result y.length_of.result f.enter.ensures.0 f.enter.ensures.1 y.to_of-u.ensures y.length_of.ensures _ _ _ _ z.deeper-found.ensures _ o.leave.ensures (omega (arith, c.if-slots-found.false)) in
+    (omega (arith, a.loop-a.invariant.0), g.list-long, g.path-long, g.room.long, g)
 
-deeper-loop-again-2 : (t : ℕ) → deeper-lts.Need-loop-preserved-2 (claims t) (deeper-at t) deeper.Post deeper-Inv-loop deeper-μ-loop
+deeper-loop-again-2 : (t : ℕ) → deeper-lts.Need-loop-a-preserved (claims t) (deeper-at t) deeper.Post deeper-Inv-loop deeper-μ-loop
 deeper-loop-again-2 t c =
-    let k = c.before in
-    let i = k.before.before in
-    let a = i.before in
+    let k = c in
+    let i = k in
+    let a = i.before.before.before in
     let s = start t a in
-    let g = skipped s.args.x s.args.table.now s.args.closed.now s.args.list.now s.args.path.now s.args.room.now s.args.depth s.args.v s.args.size s.args.n s.pre.1 a.loop.a (ending t a) a.loop.list a.loop.path a.loop.room a.loop.found a.loop.invariant.4 i.loop-test.true (ending-is t a) a.loop.invariant.0 (sym k.goes.ensures ∙ c.if2.false) in
-    (omega (arith, a.loop.invariant.0), g.list-long, g.path-long, g.room.long, g)
+    let g = skipped s.args.x s.args.table.now s.args.closed.now s.args.list.now s.args.path.now s.args.room.now s.args.depth s.args.v s.args.size s.args.n s.requires.1 a.loop-a.a (ending t a) a.loop-a.list a.loop-a.path a.loop-a.room a.loop-a.found a.loop-a.invariant.4 i.loop-a-test.true (ending-is t a) a.loop-a.invariant.0 (sym k.goes.ensures ∙ c.if-goes.false) in
+    (omega (arith, a.loop-a.invariant.0), g.list-long, g.path-long, g.room.long, g)
 
-deeper-returns-3 : (t : ℕ) → deeper-lts.Need-returns-3 (claims t) (deeper-at t) deeper.Post deeper-Inv-loop deeper-μ-loop
+deeper-returns-3 : (t : ℕ) → deeper-lts.Need-returns (claims t) (deeper-at t) deeper.Post deeper-Inv-loop deeper-μ-loop
 deeper-returns-3 t c =
     let a = c.before in
     let s = start t a in
-    turn-done s.args.x s.args.table.now s.args.closed.now s.args.list.now s.args.path.now s.args.room.now s.args.depth s.args.v s.args.size s.args.n s.pre.1 a.loop.a (ending t a) a.loop.list a.loop.path a.loop.room a.loop.found a.loop.invariant.4 (omega (arith, c.loop-test.false))
+    turn-done s.args.x s.args.table.now s.args.closed.now s.args.list.now s.args.path.now s.args.room.now s.args.depth s.args.v s.args.size s.args.n s.requires.1 a.loop-a.a (ending t a) a.loop-a.list a.loop-a.path a.loop-a.room a.loop-a.found a.loop-a.invariant.4 (omega (arith, c.loop-a-test.false))
 
 pub +deeper_spec : {M : Type 1} → statement M
 +deeper_spec = close μ-deeper λ t. deeper-lts.spec (claims t)

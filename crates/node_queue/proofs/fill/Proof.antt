@@ -7,39 +7,39 @@ use Rattle.node_queue.proofs.KeyLaws.{FilledTo, filled_none, filled_more, filled
 use Rattle.node_queue.proofs.fill.Statement.{statement}
 use Rattle.node_queue.proofs.fill.Tie as tie
 
-abbrev invariant-loop : tie.invariant-loop
-invariant-loop b₀ n x v₀ b v = (v ≤ n) × (FilledTo v b₀ x b)
+abbrev invariant-loop-v : tie.invariant-loop-v
+invariant-loop-v b₀ n x v₀ b v = (v ≤ n) × (FilledTo v b₀ x b)
 
-abbrev decreases-loop : tie.decreases-loop
-decreases-loop b₀ n x v₀ b v = n - v
+abbrev decreases-loop-v : tie.decreases-loop-v
+decreases-loop-v b₀ n x v₀ b v = n - v
 
-abbrev start : tie.At-loop invariant-loop decreases-loop → tie.Start invariant-loop decreases-loop
+abbrev start : tie.At-loop-v invariant-loop-v decreases-loop-v → tie.Start invariant-loop-v decreases-loop-v
 start a = a.before.before
 
-fill-node-requires : tie.Need-fill-node-requires invariant-loop decreases-loop
+fill-node-requires : tie.Need-fill_node-requires invariant-loop-v decreases-loop-v
 fill-node-requires c κs =
     let t = c.before in
-    let r = (start t.before).pre in
-    (room_at (roomy-kept t.before.loop.invariant.1.within r) _ t.loop-test.true, omega (arith, t.loop-test.true, r.few))
+    let r = (start t.before).requires in
+    (room_at (roomy-kept t.before.loop-v.invariant.1.within r) _ t.loop-v-test.true, omega (arith, t.loop-v-test.true, r.few))
 
-loop-again : tie.Need-loop-preserved invariant-loop decreases-loop
+loop-again : tie.Need-loop-v-preserved invariant-loop-v decreases-loop-v
 loop-again c =
     let f = c.before.before in
     let t = f.before.before in
     let a = t.before in
-    (omega (arith, t.loop-test.true), filled_more _ _ _ _ _ _ (start a).requires t.loop-test.true (omega arith) a.loop.invariant.1 f.fill-node.ensures)
+    (omega (arith, t.loop-v-test.true), filled_more _ _ _ _ _ _ (start a).requires t.loop-v-test.true (omega arith) a.loop-v.invariant.1 f.fill_node.ensures)
 
-returns : tie.Need-returns invariant-loop decreases-loop
+returns : tie.Need-returns invariant-loop-v decreases-loop-v
 returns c =
     let a = c.before in
-    filled-all _ _ _ _ _ (omega (arith, c.loop-test.false, a.loop.invariant.0)) a.loop.invariant.1
+    filled-all _ _ _ _ _ (omega (arith, c.loop-v-test.false, a.loop-v.invariant.0)) a.loop-v.invariant.1
 
 pub fill_spec : {M : Type 1} → statement M
 fill_spec =
     tie.close
     (tie.spec
-    invariant-loop
-    decreases-loop
+    invariant-loop-v
+    decreases-loop-v
     (λ c. (omega arith, filled_none _ _))
     fill-node-requires
     (λ c. search rules)

@@ -7,41 +7,41 @@ use Rattle.node_queue.proofs.KeyLaws.{key-within, key-but, key-fell, key_set}
 use Rattle.node_queue.proofs.set_key.Statement.{statement}
 use Rattle.node_queue.proofs.set_key.Tie as tie
 
-abbrev start : tie.After-put-long → tie.Start
-start c = c.before.before.before.before.before
+abbrev start : tie.After-put_long → tie.Start
+start c = c.before.before.before.before
 
 update-requires : tie.Need-update-requires
 update-requires c κs =
     let p = c.before.before.before.before in
     let s = start p in
-    (roomy-kept (key-within _ _ _ _ p.put-long.ensures) s.pre.0, s.pre.1, key-but _ _ _ _ p.put-long.ensures _ s.pre.2)
+    (roomy-kept (key-within _ _ _ _ p.put_long.ensures) s.requires.0, s.requires.1, key-but _ _ _ _ p.put_long.ensures _ s.requires.2)
 
-returns : tie.Need-returns
+returns : tie.Need-returns-then-old-x
 returns c =
     let u = c.before.before in
     let p = u.before.before.before.before.before in
     let s = start p in
-    key_set _ _ _ _ p.put-long.ensures _ s.pre.0 s.pre.1 (omega arith) _ u.update.ensures.0 _ u.update.ensures.1 u.update.ensures.2
+    key_set _ _ _ _ p.put_long.ensures _ s.requires.0 s.requires.1 (omega arith) _ u.update.ensures.0 _ u.update.ensures.1 u.update.ensures.2
 
 lower-requires : tie.Need-lower-requires
 lower-requires c κs =
     let p = c.before.before.before.before in
     let s = start p in
-    let f = key-fell _ _ _ _ p.put-long.ensures _ s.pre.0 s.pre.1 (omega arith) (omega (arith, c.before.if1.false, p.before.before.long.ensures)) s.pre.2 in
-    (roomy-kept (key-within _ _ _ _ p.put-long.ensures) s.pre.0, s.pre.1, f.0, f.1)
+    let f = key-fell _ _ _ _ p.put_long.ensures _ s.requires.0 s.requires.1 (omega arith) (omega (arith, c.before.if-old-x.false, p.before.before.long-old.ensures)) s.requires.2 in
+    (roomy-kept (key-within _ _ _ _ p.put_long.ensures) s.requires.0, s.requires.1, f.0, f.1)
 
-returns-2 : tie.Need-returns-2
+returns-2 : tie.Need-returns
 returns-2 c =
     let u = c.before.before in
     let p = u.before.before.before.before.before in
     let s = start p in
-    key_set _ _ _ _ p.put-long.ensures _ s.pre.0 s.pre.1 (omega arith) _ u.lower.ensures.0 _ u.lower.ensures.1 u.lower.ensures.2
+    key_set _ _ _ _ p.put_long.ensures _ s.requires.0 s.requires.1 (omega arith) _ u.lower.ensures.0 _ u.lower.ensures.1 u.lower.ensures.2
 
 pub set_key_spec : {M : Type 1} → statement M
 set_key_spec =
     tie.close
     (tie.spec
-    (λ c κs. (room_at c.before.before.requires.0 _ c.before.before.requires.1, omega arith))
+    (λ c κs. (room_at c.before.requires.0 _ c.before.requires.1, omega arith))
     (λ c κs. search rules)
     update-requires
     (λ c. search rules)

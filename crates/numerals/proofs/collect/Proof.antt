@@ -13,64 +13,64 @@ use Rattle.numerals.proofs.ReadLaws.{digit-in, value-more, length_more, read-lar
 use Rattle.numerals.proofs.collect.Statement.{statement}
 use Rattle.numerals.proofs.collect.Tie as tie
 
-abbrev invariant-loop : tie.invariant-loop
-invariant-loop text at n₀ i₀ n i =
+abbrev invariant-loop-n : tie.invariant-loop-n
+invariant-loop-n text at n₀ i₀ n i =
     (i ≤ length text)
     × (n ≤ most_number)
     × (value_after n (digits (drop i text)) ≡ value (digits (drop at text)))
     × (i + length (digits (drop i text)) ≡ at + length (digits (drop at text)))
 
-abbrev decreases-loop : tie.decreases-loop
-decreases-loop text at n₀ i₀ n i = length text - i
+abbrev decreases-loop-n : tie.decreases-loop-n
+decreases-loop-n text at n₀ i₀ n i = length text - i
 
-abbrev text : tie.At-loop invariant-loop decreases-loop → List ℕ
+abbrev text : tie.At-loop-n invariant-loop-n decreases-loop-n → List ℕ
 text a = a.before.before.args.text.now
 
-abbrev byte : tie.At-loop invariant-loop decreases-loop → ℕ
-byte a = get_or (text a) a.loop.i 0
+abbrev byte : tie.At-loop-n invariant-loop-n decreases-loop-n → ℕ
+byte a = get_or (text a) a.loop-n.i 0
 
-digit : (c : tie.Then1 invariant-loop decreases-loop) → is_digit (byte c.before.before) ≡ true
-digit c = sym c.before.digit_at.ensures ∙ c.if1.true
+digit : (c : tie.In-loop-n invariant-loop-n decreases-loop-n) → is_digit (byte c.before.before) ≡ true
+digit c = sym c.before.digit_at.ensures ∙ c.loop-n-test.true
 
-range : (c : tie.Then1 invariant-loop decreases-loop) → (48 ≤ byte c.before.before) × (byte c.before.before ≤ 57)
+range : (c : tie.In-loop-n invariant-loop-n decreases-loop-n) → (48 ≤ byte c.before.before) × (byte c.before.before ≤ 57)
 range c = digit-e (byte c.before.before) (digit c)
 
-inside : (c : tie.Then1 invariant-loop decreases-loop) → c.before.before.loop.i < length (text c.before.before)
-inside c = digit-in (text c.before.before) c.before.before.loop.i (digit c)
+inside : (c : tie.In-loop-n invariant-loop-n decreases-loop-n) → c.before.before.loop-n.i < length (text c.before.before)
+inside c = digit-in (text c.before.before) c.before.before.loop-n.i (digit c)
 
-loop-holds : tie.Need-loop-init invariant-loop decreases-loop
+loop-holds : tie.Need-loop-n-init invariant-loop-n decreases-loop-n
 unfolding value
 loop-holds c =
     (omega (arith, c.before.requires.0), omega arith, refl, refl)
 
-returns : tie.Need-returns invariant-loop decreases-loop
+returns : tie.Need-returns-then-n-gt-MOST invariant-loop-n decreases-loop-n
 returns c =
     let d = c.before.before in
     let a = d.before.before in
-    read-large (text a) a.before.before.args.at a.loop.n a.loop.i a.loop.invariant.2 (digit d) (omega arith)
+    read-large (text a) a.before.before.args.at a.loop-n.n a.loop-n.i a.loop-n.invariant.2 (digit d) (omega arith)
 
-loop-again : tie.Need-loop-preserved invariant-loop decreases-loop
+loop-again : tie.Need-loop-n-preserved invariant-loop-n decreases-loop-n
 loop-again c =
     let d = c.before.before in
     let a = d.before.before in (
       omega (arith, inside d),
       omega arith,
-      sym (value-more (text a) a.loop.i a.loop.n (digit d)) ∙ a.loop.invariant.2,
-      omega (arith, length_more (text a) a.loop.i (digit d), a.loop.invariant.3),
+      sym (value-more (text a) a.loop-n.i a.loop-n.n (digit d)) ∙ a.loop-n.invariant.2,
+      omega (arith, length_more (text a) a.loop-n.i (digit d), a.loop-n.invariant.3),
     )
 
-returns-2 : tie.Need-returns-2 invariant-loop decreases-loop
+returns-2 : tie.Need-returns invariant-loop-n decreases-loop-n
 returns-2 c =
     let a = c.before.before in
     let s = a.before.before in
-    read_done (text a) s.args.at a.loop.n a.loop.i a.loop.invariant.2 s.requires.1 (sym c.before.digit_at.ensures ∙ c.if1.false) a.loop.invariant.1 a.loop.invariant.3
+    read_done (text a) s.args.at a.loop-n.n a.loop-n.i a.loop-n.invariant.2 s.requires.1 (sym c.before.digit_at.ensures ∙ c.loop-n-test.false) a.loop-n.invariant.1 a.loop-n.invariant.3
 
 pub collect_spec : {M : Type 1} → statement M
 collect_spec =
     tie.close
     (tie.spec
-    invariant-loop
-    decreases-loop
+    invariant-loop-n
+    decreases-loop-n
     loop-holds
     (λ c κs. search rules)
     (λ c. omega arith)
@@ -82,5 +82,5 @@ collect_spec =
     (λ c. omega (arith, inside c.before.before))
     (λ c. omega (arith, inside c.before.before))
     loop-again
-    (λ c. omega (arith, c.before.before.loop.invariant.1))
+    (λ c. omega (arith, c.before.before.loop-n.invariant.1))
     returns-2)

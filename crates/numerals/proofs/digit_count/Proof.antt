@@ -10,17 +10,17 @@ use Rattle.numerals.proofs.DecimalLaws.{decimal-one, decimal-more, decimal-lengt
 use Rattle.numerals.proofs.digit_count.Statement.{statement}
 use Rattle.numerals.proofs.digit_count.Tie as tie
 
-abbrev invariant-loop : tie.invariant-loop
-invariant-loop v k₀ w₀ k w = (w ≤ v) × (k + length (decimal w) ≡ 1 + length (decimal v))
+abbrev invariant-loop-w : tie.invariant-loop-w
+invariant-loop-w v k₀ w₀ k w = (w ≤ v) × (k + length (decimal w) ≡ 1 + length (decimal v))
 
-abbrev decreases-loop : tie.decreases-loop
-decreases-loop v k₀ w₀ k w = w
+abbrev decreases-loop-w : tie.decreases-loop-w
+decreases-loop-w v k₀ w₀ k w = w
 
-loop-again : tie.Need-loop-preserved invariant-loop decreases-loop
+loop-again : tie.Need-loop-w-preserved invariant-loop-w decreases-loop-w
 loop-again c =
-    let w = c.before.loop.w in
+    let w = c.before.loop-w.w in
     (omega arith, omega (arith, simp length-append at (ap length (decimal-more w (omega arith) (omega arith)))))
 
 pub digit_count_spec : {M : Type 1} → statement M
 digit_count_spec =
-    tie.close (tie.spec invariant-loop decreases-loop (λ c. search rules) (λ c. omega (arith, decimal-length c.before.before.args.v)) (λ c. omega arith) loop-again (λ c. omega (arith, ap length (decimal-one c.before.loop.w (omega arith)))))
+    tie.close (tie.spec invariant-loop-w decreases-loop-w (λ c. search rules) (λ c. omega (arith, decimal-length c.before.before.args.v)) (λ c. omega arith) loop-again (λ c. omega (arith, ap length (decimal-one c.before.loop-w.w (omega arith)))))

@@ -12,8 +12,8 @@ returns c =
     let f = c.before.before in
     let d = f.before.before in
     let s = d.before.before in
-    let e = s.args.at + d.digit-count.result in
-    (omega arith, cc (back s.args.at e s.args.out.now f.fill-digits.new.0 (omega arith)))
+    let e = s.args.at + d.digit_count.result in
+    (omega arith, cc (back s.args.at e s.args.out.now f.fill_digits.new.s (omega arith)))
 
 pub put_spec : {M : Type 1} → statement M
 put_spec =

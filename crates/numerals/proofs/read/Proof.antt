@@ -7,10 +7,10 @@ use Rattle.numerals.proofs.ReadLaws.{number-none}
 use Rattle.numerals.proofs.read.Statement.{statement}
 use Rattle.numerals.proofs.read.Tie as tie
 
-returns-2 : tie.Need-returns-2
+returns-2 : tie.Need-returns
 returns-2 c =
     let s = c.before.before.before in
-    sym (number-none (drop s.args.at s.args.text.now) (sym c.before.well-formed-2.ensures ∙ c.if1.false))
+    sym (number-none (drop s.args.at s.args.text.now) (sym c.before.well_formed-2.ensures ∙ c.if-well_formed.false))
 
 pub read_spec : {M : Type 1} → statement M
 read_spec = tie.close (tie.spec (λ c κs. search rules) (λ c κs. (search rules, cc)) (λ c. search rules) returns-2)

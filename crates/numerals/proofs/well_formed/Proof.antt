@@ -13,29 +13,29 @@ use Rattle.numerals.proofs.ReadLaws.{digit-in, formed-none, formed-lead, formed-
 use Rattle.numerals.proofs.well_formed.Statement.{statement}
 use Rattle.numerals.proofs.well_formed.Tie as tie
 
-returns : tie.Need-returns
+returns : tie.Need-returns-then-not-digit_at
 returns c =
     let s = c.before.before.before in
-    sym (formed-none s.args.text.now s.args.at (sym c.before.digit_at.ensures ∙ not-true _ c.if1.true))
+    sym (formed-none s.args.text.now s.args.at (sym c.before.digit_at.ensures ∙ c.if-not-digit_at.true))
 
-abbrev text : tie.Else1 → List ℕ
+abbrev text : tie.Else-not-digit_at → List ℕ
 text c = c.before.before.before.args.text.now
 
-abbrev at : tie.Else1 → ℕ
+abbrev at : tie.Else-not-digit_at → ℕ
 at c = c.before.before.before.args.at
 
-digit : (c : tie.Else1) → is_digit (get_or (text c) (at c) 0) ≡ true
-digit c = sym c.before.digit_at.ensures ∙ not-false _ c.if1.false
+digit : (c : tie.Else-not-digit_at) → is_digit (get_or (text c) (at c) 0) ≡ true
+digit c = sym c.before.digit_at.ensures ∙ c.if-not-digit_at.false
 
-inside : (c : tie.Else1) → at c < length (text c)
+inside : (c : tie.Else-not-digit_at) → at c < length (text c)
 inside c = digit-in (text c) (at c) (digit c)
 
-returns-2 : tie.Need-returns-2
+returns-2 : tie.Need-returns-then-text-at-ne48
 returns-2 c =
     let e = c.before.before in
     sym (formed-lead (text e) (at e) (digit e) (λ z. omega arith))
 
-returns-3 : tie.Need-returns-3
+returns-3 : tie.Need-returns
 returns-3 c =
     let e = c.before.before.before in
     cc (formed-zero (text e) (at e) (digit e) (omega arith))

@@ -7,35 +7,35 @@ use Rattle.pair_marks.proofs.MarkLaws.{blank_none, blank-more, blank-kept, blank
 use Rattle.pair_marks.proofs.blank.Statement.{statement}
 use Rattle.pair_marks.proofs.blank.Tie as tie
 
-abbrev invariant-loop : tie.invariant-loop
-invariant-loop room₀ n v₀ room v = (v ≤ n) × Blank room₀ room v
+abbrev invariant-loop-v : tie.invariant-loop-v
+invariant-loop-v room₀ n v₀ room v = (v ≤ n) × Blank room₀ room v
 
-abbrev decreases-loop : tie.decreases-loop
-decreases-loop room₀ n v₀ room v = n - v
+abbrev decreases-loop-v : tie.decreases-loop-v
+decreases-loop-v room₀ n v₀ room v = n - v
 
-abbrev start : tie.At-loop invariant-loop decreases-loop → tie.Start invariant-loop decreases-loop
+abbrev start : tie.At-loop-v invariant-loop-v decreases-loop-v → tie.Start invariant-loop-v decreases-loop-v
 start a = a.before.before
 
-loop-again : tie.Need-loop-preserved invariant-loop decreases-loop
+loop-again : tie.Need-loop-v-preserved invariant-loop-v decreases-loop-v
 loop-again c =
-    let p = c.before.before in
-    let q = p.before.before.before.before in
-    let i = q.before.before in
-    let a = i.before in
-    (omega (arith, i.loop-test.true), blank-more _ _ _ _ (start a).requires i.loop-test.true a.loop.invariant.1 _ _ q.put_word.ensures p.put-word2.ensures)
+    let p = c in
+    let q = p in
+    let i = q in
+    let a = i.before.before.before.before.before.before.before.before.before in
+    (omega (arith, i.loop-v-test.true), blank-more _ _ _ _ (start a).requires i.loop-v-test.true a.loop-v.invariant.1 _ _ q.put_word.ensures p.put_word-in-loop-v.ensures)
 
-returns : tie.Need-returns invariant-loop decreases-loop
+returns : tie.Need-returns invariant-loop-v decreases-loop-v
 returns c =
     let a = c.before in
     let n = (start a).args.n in
-    (a.loop.invariant.1.within, blank-kept n _ _ _ c.loop-test.false a.loop.invariant.1, blank-added n _ _ _ c.loop-test.false a.loop.invariant.1)
+    (a.loop-v.invariant.1.within, blank-kept n _ _ _ c.loop-v-test.false a.loop-v.invariant.1, blank-added n _ _ _ c.loop-v-test.false a.loop-v.invariant.1)
 
 pub blank_spec : {M : Type 1} → statement M
 blank_spec =
     tie.close
     (tie.spec
-    invariant-loop
-    decreases-loop
+    invariant-loop-v
+    decreases-loop-v
     (λ c. (omega arith, blank_none _))
     (λ c κs. search rules)
     (λ c κs. search rules)

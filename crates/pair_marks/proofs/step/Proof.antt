@@ -10,23 +10,23 @@ use Rattle.working_room.specs.Field.{room_bytes}
 use Rattle.pair_marks.proofs.step.Statement.{statement}
 use Rattle.pair_marks.proofs.step.Tie as tie
 
-returns : tie.Need-returns
+returns : tie.Need-returns-then-word-arc
 returns c = inl ((cc), (cc), (cc))
 
 mark-requires : tie.Need-mark-requires
 mark-requires c κs =
-    let w = c.before.before.before.before in
-    let s = w.before.before.before.before in (
-      omega (arith, w.word.ensures),
+    let w = c in
+    let s = w in (
+      omega (arith, w.word-arc.ensures),
       omega arith,
-      subst (λ a. from_at s.args.table.now a * room_bytes + room_bytes ≤ length s.args.room.now) (sym w.word.ensures) s.requires.2,
+      subst (λ a. from_at s.args.table.now a * room_bytes + room_bytes ≤ length s.args.room.now) (sym w.word-arc.ensures) s.requires.2,
     )
 
-returns-2 : tie.Need-returns-2
+returns-2 : tie.Need-returns
 returns-2 c =
-    let e = c.before.before.before.before in
-    let w = e.before.before.before in
-    inr ((λ k. e.if1.false (e.before.word2.ensures ∙ k ∙ sym w.word.ensures)), (cc), (cc))
+    let e = c in
+    let w = e in
+    inr ((λ k. e.if-word-arc.false (e.word.ensures ∙ k ∙ sym w.word-arc.ensures)), (cc), (cc))
 
 pub step_spec : {M : Type 1} → statement M
 step_spec =

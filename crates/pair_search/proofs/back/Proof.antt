@@ -4,7 +4,6 @@ use mathlib.Core.Bool.{Bool, true}
 use Prim.Native.Nat.{ℕ, ◌<◌}
 use native.Mathlib.Omega.{arith}
 use borrow.Author.Rules.{rules}
-use borrow.Author.Tests.{not-true, not-false}
 use Rattle.net.specs.Net.{Net}
 use Rattle.table.specs.Table.{records, arcs_of, net_of}
 use Rattle.table.proofs.FaultLaws.{all-good, good-size}
@@ -19,11 +18,11 @@ use Rattle.pair_search.proofs.TurnLaws.{looked-is, comes-arc, at-queue, back_non
 use Rattle.pair_search.proofs.back.Statement.{statement}
 use Rattle.pair_search.proofs.back.Tie as tie
 
-abbrev begun : tie.After-comes-back → tie.Start
-begun k = k.before.before.before.before.before
+abbrev begun : tie.After-comes_back → tie.Start
+begun k = k.before.before.before.before
 
-abbrev start : tie.After-word → tie.Start
-start k = begun k.before.before.before
+abbrev start : tie.After-word-b → tie.Start
+start k = begun k.before.before
 
 abbrev net : tie.Start → Net
 net s = net_of s.args.nodes s.args.table.now s.args.closed.now
@@ -36,53 +35,53 @@ queue s =
     at-queue (net s) s.args.s s.args.goal s.args.room.now s.args.room.now s.args.root s.args.u s.args.d
     (Backward (arcs_of s.args.table.now) (kept_in s.args.nodes s.args.room.now) (last_of s.args.room.now) s.args.u) s.requires.2
 
-comes-back-requires : tie.Need-comes-back-requires
-comes-back-requires c κs = let s = c.before.before.before.before in (s.requires.0, (queue s).roomy, s.requires.1)
+comes-back-requires : tie.Need-comes_back-requires
+comes-back-requires c κs = let s = c.before.before.before in (s.requires.0, (queue s).roomy, s.requires.1)
 
-returns : tie.Need-returns
+returns : tie.Need-returns-then-not-comes_back
 returns c =
     let k = c.before in
     let s = begun k in
-    back_none s.args.nodes s.args.table.now s.args.closed.now s.pre.0 s.args.s s.args.goal s.args.room.now s.args.room.now s.args.root s.args.u s.args.d s.pre.2
-    (sym k.comes_back.ensures ∙ not-true _ c.if1.true)
+    back_none s.args.nodes s.args.table.now s.args.closed.now s.requires.0 s.args.s s.args.goal s.args.room.now s.args.room.now s.args.root s.args.u s.args.d s.requires.2
+    (sym k.comes_back.ensures ∙ c.if-not-comes_back.true)
 
-word-requires : tie.Need-word-requires
+word-requires : tie.Need-word-b-requires
 word-requires c κs =
-    let s = begun c.before.before in
-    (record-in s.args.nodes s.args.room.now s.args.u (queue s).roomy s.pre.1, omega arith)
+    let s = begun c.before in
+    (record-in s.args.nodes s.args.room.now s.args.u (queue s).roomy s.requires.1, omega arith)
 
-leads-back : (k : tie.After-word) → answer (start k) (last_of (start k).args.room.now (start k).args.u) ≡ true
-leads-back k = let e = k.before.before in sym e.before.comes_back.ensures ∙ not-false _ e.if1.false
+leads-back : (k : tie.After-word-b) → answer (start k) (last_of (start k).args.room.now (start k).args.u) ≡ true
+leads-back k = let e = k in sym e.comes_back.ensures ∙ e.if-not-comes_back.false
 
-in_table : (k : tie.After-word) → k.word.result < records (start k).args.table.now
+in_table : (k : tie.After-word-b) → k.word-b.result < records (start k).args.table.now
 in_table k =
     let s = start k in
-    comes-arc s.args.table.now (kept_in s.args.nodes s.args.room.now) s.args.u k.word.result (ap (answer s) k.word.ensures ∙ leads-back k)
+    comes-arc s.args.table.now (kept_in s.args.nodes s.args.room.now) s.args.u k.word-b.result (ap (answer s) k.word-b.ensures ∙ leads-back k)
 
-from-of-requires : tie.Need-from-of-requires
+from-of-requires : tie.Need-from_of-w-requires
 from-of-requires c κs = in_table c
 
 look-requires : tie.Need-look-requires
 look-requires c κs =
-    let f = c.before.before in
-    let k = f.before in
+    let f = c in
+    let k = f.before.before.before in
     let s = start k in (
       subst Stands (sym c.again.ensures) again-stands,
       queue s,
-      omega (arith, f.from-of.ensures, (all-good s.args.nodes s.args.table.now s.pre.0 k.word.result (in_table k)).start),
-      omega (arith, in_table k, (good-size s.args.nodes s.args.table.now s.pre.0).3),
+      omega (arith, f.from_of-w.ensures, (all-good s.args.nodes s.args.table.now s.requires.0 k.word-b.result (in_table k)).start),
+      omega (arith, in_table k, (good-size s.args.nodes s.args.table.now s.requires.0).3),
     )
 
-returns-2 : tie.Need-returns-2
+returns-2 : tie.Need-returns
 returns-2 c =
-    let o = c.before.before in
-    let f = o.before.before.before in
-    let k = f.before in
+    let o = c in
+    let f = o in
+    let k = f.before.before.before.before.before.before in
     let s = start k in
-    back-look s.args.nodes s.args.table.now s.args.closed.now s.pre.0 s.args.s s.args.goal s.args.room.now s.args.room.now s.args.root s.args.u s.args.d s.pre.2
-    (leads-back k) k.word.result k.word.ensures f.from-of.result f.from-of.ensures o.look.new.0 o.look.result
-    (looked-is s.args.nodes s.args.room.now s.args.root k.word.result o.look.new.0 o.look.result o.before.again.result o.before.again.ensures f.from-of.result
-    f.from-of.result refl s.args.d s.args.d refl o.look.ensures)
+    back-look s.args.nodes s.args.table.now s.args.closed.now s.requires.0 s.args.s s.args.goal s.args.room.now s.args.room.now s.args.root s.args.u s.args.d s.requires.2
+    (leads-back k) k.word-b.result k.word-b.ensures f.from_of-w.result f.from_of-w.ensures o.look.new.room o.look.result
+    (looked-is s.args.nodes s.args.room.now s.args.root k.word-b.result o.look.new.room o.look.result o.again.result o.again.ensures f.from_of-w.result
+    f.from_of-w.result refl s.args.d s.args.d refl o.look.ensures)
 
 pub back_spec : {M : Type 1} → statement M
 back_spec =

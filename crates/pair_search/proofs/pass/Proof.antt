@@ -5,7 +5,6 @@ use mathlib.Core.Logic.{inl, inr}
 use Prim.Native.Nat.{◌+◌, ◌-◌, ◌<◌}
 use native.Mathlib.Omega.{arith}
 use borrow.Author.Rules.{rules}
-use borrow.Author.Tests.{not-true, not-false}
 use Rattle.table.specs.Table.{to_at, len_at, is_open_at}
 use Rattle.table.proofs.FaultLaws.{all-good, good-size}
 use Rattle.working_room.specs.Field.{long_at}
@@ -16,64 +15,64 @@ use Rattle.pair_search.proofs.TurnLaws.{looked-is}
 use Rattle.pair_search.proofs.pass.Statement.{statement}
 use Rattle.pair_search.proofs.pass.Tie as tie
 
-abbrev tested : tie.After-word → tie.After-is-open
-tested k = k.before.before.before
+abbrev tested : tie.After-word → tie.After-is_open
+tested k = k.before.before
 
-abbrev begun : tie.After-is-open → tie.Start
+abbrev begun : tie.After-is_open → tie.Start
 begun k = k.before.before.before.before
 
-abbrev start : tie.After-to-of → tie.Start
+abbrev start : tie.After-to_of-w → tie.Start
 start k = begun (tested k.before.before)
 
-returns : tie.Need-returns
-returns c = inl (inl (sym c.before.is_open.ensures ∙ not-true _ c.if1.true), refl, refl)
+returns : tie.Need-returns-then-not-is_open
+returns c = inl (inl (sym c.is_open.ensures ∙ c.if-not-is_open.true), refl, refl)
 
-returns-2 : tie.Need-returns-2
-returns-2 c = inl (inr (sym c.before.word.ensures ∙ c.if2.true), refl, refl)
+returns-2 : tie.Need-returns-then-word-a
+returns-2 c = inl (inr (sym c.word.ensures ∙ c.if-word-a.true), refl, refl)
 
 -- the arc is open, and its end is a node
 usable : (k : tie.After-word) → is_open_at (begun (tested k)).args.closed.now (begun (tested k)).args.a ≡ true
-usable k = let e = k.before.before in sym e.before.is_open.ensures ∙ not-false _ e.if1.false
+usable k = let e = k in sym e.is_open.ensures ∙ e.if-not-is_open.false
 
-end-in : (k : tie.After-to-of) → k.to-of.result < (start k).args.nodes
-end-in k = let s = start k in omega (arith, k.to-of.ensures, (all-good s.args.nodes s.args.table.now s.pre.0 s.args.a s.pre.3).end)
+end-in : (k : tie.After-to_of-w) → k.to_of-w.result < (start k).args.nodes
+end-in k = let s = start k in omega (arith, k.to_of-w.ensures, (all-good s.args.nodes s.args.table.now s.requires.0 s.args.a s.requires.3).end)
 
 long-requires-2 : tie.Need-long-requires-2
 long-requires-2 c κs =
-    let k = c.before.before.before.before in
+    let k = c.before.before in
     let s = start k in
-    (record-in s.args.nodes s.args.room.now k.to-of.result s.pre.1.roomy (end-in k), omega arith)
+    (record-in s.args.nodes s.args.room.now k.to_of-w.result s.requires.1.roomy (end-in k), omega arith)
 
-sub-detour : tie.Need-overflow-sub-detour
+sub-detour : tie.Need-overflow_sub-detour
 sub-detour c =
-    let f = c.before.before in
-    let g = f.before.before in
-    let k = g.before in
+    let f = c in
+    let g = f in
+    let k = g.before.before.before in
     let s = start k in
-    omega (arith, s.pre.6 (usable k.before.before), c.long2.ensures, f.long.ensures, g.length-of.ensures, ap (long_at 12 s.args.room.now) k.to-of.ensures)
+    omega (arith, s.requires.6 (usable k.before.before), c.long-2.ensures, f.long.ensures, g.length_of-len.ensures, ap (long_at 12 s.args.room.now) k.to_of-w.ensures)
 
 look-requires : tie.Need-look-requires
 look-requires c κs =
-    let k = c.before.before.before.before.before.before.before in
+    let k = c.before.before.before.before.before in
     let s = start k in
-    (subst Stands (sym c.again.ensures) again-stands, s.pre.1, end-in k, omega (arith, s.pre.3, (good-size s.args.nodes s.args.table.now s.pre.0).3))
+    (subst Stands (sym c.again.ensures) again-stands, s.requires.1, end-in k, omega (arith, s.requires.3, (good-size s.args.nodes s.args.table.now s.requires.0).3))
 
-returns-3 : tie.Need-returns-3
+returns-3 : tie.Need-returns
 returns-3 c =
-    let o = c.before.before in
-    let h = o.before.before.before in
-    let f = h.before.before in
-    let g = f.before.before in
-    let k = g.before in
+    let o = c in
+    let h = o in
+    let f = h in
+    let g = f in
+    let k = g.before.before.before.before.before.before.before.before in
     let s = start k in
     let l = s.args.room.now in
     inr (
       usable k.before.before,
-      (λ z. k.before.if2.false (k.before.before.word.ensures ∙ z)),
-      looked-is s.args.nodes l s.args.root s.args.a o.look.new.0 o.look.result o.before.again.result o.before.again.ensures k.to-of.result
-          (to_at s.args.table.now s.args.a) k.to-of.ensures (s.args.d + (g.length-of.result + f.long.result - h.long2.result))
+      (λ z. k.if-word-a.false (k.word.ensures ∙ z)),
+      looked-is s.args.nodes l s.args.root s.args.a o.look.new.room o.look.result o.again.result o.again.ensures k.to_of-w.result
+          (to_at s.args.table.now s.args.a) k.to_of-w.ensures (s.args.d + (g.length_of-len.result + f.long.result - h.long-2.result))
           (s.args.d + (len_at s.args.table.now s.args.a + long_at 12 l s.args.u - long_at 12 l (to_at s.args.table.now s.args.a)))
-          (omega (arith, g.length-of.ensures, f.long.ensures, h.long2.ensures, ap (long_at 12 l) k.to-of.ensures)) o.look.ensures,
+          (omega (arith, g.length_of-len.ensures, f.long.ensures, h.long-2.ensures, ap (long_at 12 l) k.to_of-w.ensures)) o.look.ensures,
     )
 
 pub pass_spec : {M : Type 1} → statement M

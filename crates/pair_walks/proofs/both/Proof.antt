@@ -1,5 +1,5 @@
 -- Slot 0 and then slot 1: both stand behind one another.
-use mathlib.Core.Path.{◌≡◌, ap₂, ◌∙◌}
+use mathlib.Core.Path.{ap₂}
 use Prim.Native.Nat.{ℕ, ◌-◌, ◌≤◌}
 use native.Mathlib.Omega.{arith}
 use borrow.Author.Rules.{rules}
@@ -10,7 +10,7 @@ use Rattle.pair_walks.proofs.FollowLaws.{follow-short, two-slots}
 use Rattle.pair_walks.proofs.both.Statement.{statement}
 use Rattle.pair_walks.proofs.both.Tie as tie
 
-abbrev start : tie.After-put → tie.Start
+abbrev start : tie.After-put-first → tie.Start
 start c = c.before.before.before.before.before
 
 -- a walk fits a slot
@@ -19,23 +19,23 @@ unfolding way_in
 short s own other =
     follow-short (arcs_of s.args.table.now) (next_in own other s.args.nodes s.args.room.now) s.args.goal (s.args.nodes - 1) s.args.s
 
-put-requires : tie.Need-put-requires
-put-requires c κs = let s = c.before.before.before.before in (s.requires.0, omega arith, omega (arith, s.requires.2))
+put-requires : tie.Need-put-first-requires
+put-requires c κs = let s = c in (s.requires.0, omega arith, omega (arith, s.requires.2))
 
-put-requires-2 : tie.Need-put-requires-2
+put-requires-2 : tie.Need-put-second-requires
 put-requires-2 c κs =
     let f = c.before.before.before in
     let s = start f in
-    (s.pre.1, omega arith, omega (arith, s.pre.2, f.put.auto.1.1.1.1.1.1.1.0))
+    (s.requires.1, omega arith, omega (arith, s.requires.2, f.put-first.auto.area))
 
 returns : tie.Need-returns
 returns c =
-    let g = c.before.before in
-    let f = g.before.before.before.before in
+    let g = c in
+    let f = g.before.before.before.before.before.before in
     let s = start f in
     record {
-      area-is = two-slots (s.args.nodes - 1) _ _ s.args.area.now _ _ (short s s.args.own s.args.other) s.pre.2 f.put.ensures.0 g.put2.ensures.0;
-      ways = ap₂ (λ x y. record { first = x; second = y }) f.put.ensures.1 g.put2.ensures.1;
+      area-is = two-slots (s.args.nodes - 1) _ _ s.args.area.now _ _ (short s s.args.own s.args.other) s.requires.2 f.put-first.ensures.0 g.put-second.ensures.0;
+      ways = ap₂ (λ x y. record { first = x; second = y }) f.put-first.ensures.1 g.put-second.ensures.1;
       p-fits = short s s.args.own s.args.other;
       q-fits = short s s.args.other s.args.own;
     }

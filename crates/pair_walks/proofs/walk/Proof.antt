@@ -1,5 +1,5 @@
 -- The walk is written, and the words behind it are filled.
-use mathlib.Core.Path.{◌≡◌, ap, ◌∙◌}
+use mathlib.Core.Path.{ap, ◌∙◌}
 use Prim.Native.Nat.{◌-◌, ◌≤◌}
 use native.Mathlib.Omega.{arith}
 use borrow.Author.Rules.{rules}
@@ -10,7 +10,7 @@ use Rattle.pair_walks.proofs.FollowLaws.{follow-short, slot-filled}
 use Rattle.pair_walks.proofs.walk.Statement.{statement}
 use Rattle.pair_walks.proofs.walk.Tie as tie
 
-abbrev start : tie.After-follow → tie.Start
+abbrev start : tie.After-follow-way → tie.Start
 start c = c.before.before.before.before.before
 
 short : (s : tie.Start) → length (way_in s.args.table.now s.args.nodes s.args.s s.args.goal s.args.room.now s.args.own s.args.other) ≤ s.args.nodes - 1
@@ -18,17 +18,17 @@ unfolding way_in
 short s =
     follow-short (arcs_of s.args.table.now) (next_in s.args.own s.args.other s.args.nodes s.args.room.now) s.args.goal (s.args.nodes - 1) s.args.s
 
-fill32-part-requires : tie.Need-fill32-part-requires
+fill32-part-requires : tie.Need-fill32_part-requires
 fill32-part-requires c κs =
     let f = c.before.before.before in
-    (omega (arith, f.follow.ensures.0, ap (λ y. y.arcs) f.follow.ensures.2, short (start f), (start f).requires.1), omega arith)
+    (omega (arith, f.follow-way.ensures.0, ap (λ y. y.arcs) f.follow-way.ensures.2, short (start f), (start f).requires.1), omega arith)
 
 returns : tie.Need-returns
 returns c =
-    let z = c.before.before in
-    let f = z.before.before.before.before in
+    let z = c in
+    let f = z.before.before.before.before.before.before in
     let s = start f in
-    (slot-filled _ _ _ f.follow.result.arcs (s.args.nodes - 1) (ap (λ y. y.arcs) f.follow.ensures.2) (f.follow.ensures.0 ∙ s.pre.1) f.follow.ensures.1 z.fill32-part.ensures, f.follow.ensures.2)
+    (slot-filled _ _ _ f.follow-way.result.arcs (s.args.nodes - 1) (ap (λ y. y.arcs) f.follow-way.ensures.2) (f.follow-way.ensures.0 ∙ s.requires.1) f.follow-way.ensures.1 z.fill32_part.ensures, f.follow-way.ensures.2)
 
 pub walk_spec : {M : Type 1} → statement M
 walk_spec = tie.close (tie.spec (λ c κs. search rules) fill32-part-requires (λ c. search rules) returns)

@@ -8,20 +8,20 @@ use Rattle.plan_change.proofs.clear_of.Statement.{statement}
 use Rattle.plan_change.proofs.clear_of.Tie as tie
 
 abbrev start : tie.After-plan → tie.Start
-start c = c.before.before.before
+start c = c.before.before
 
-returns : tie.Need-returns
+returns : tie.Need-returns-then-plan
 returns c =
     let k = c.before.before in
     let t = k.before.before in
     let a = (start t.before).args in
-    rw (eq-eqb (plan_at a.file.now a.i) a.plan (sym t.before.plan.ensures ∙ t.if1.true)) k.clear.ensures
+    rw (eq-eqb (plan_at a.file.now a.i) a.plan (sym t.plan.ensures ∙ t.if-plan.true)) k.clear.ensures
 
-returns-2 : tie.Need-returns-2
+returns-2 : tie.Need-returns-else-plan
 returns-2 c =
     let s = start c.before in
     let a = s.args in
-    rw (ne_eqb (plan_at a.file.now a.i) a.plan (λ z. c.if1.false (c.before.plan.ensures ∙ z))) (sym (put_same a.file.now a.i s.pre))
+    rw (ne_eqb (plan_at a.file.now a.i) a.plan (λ z. c.if-plan.false (c.plan.ensures ∙ z))) (sym (put_same a.file.now a.i s.requires))
 
 pub clear_of_spec : {M : Type 1} → statement M
 clear_of_spec =

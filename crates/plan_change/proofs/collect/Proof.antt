@@ -7,23 +7,23 @@ use Rattle.plan_change.proofs.collect.Statement.{statement}
 use Rattle.plan_change.proofs.collect.Tie as tie
 
 abbrev start : tie.After-wrong → tie.Start
-start c = c.before.before.before
+start c = c.before.before
 
-returns : tie.Need-returns
+returns : tie.Need-returns-then-wrong
 returns c =
     let t = c.before in
-    collected-not (start t.before).args.file.now _ _ (sym t.before.wrong.ensures ∙ t.if1.true) c.plain.ensures refl
+    collected-not (start t.before).args.file.now _ _ (sym t.wrong.ensures ∙ t.if-wrong.true) c.plain.ensures refl
 
-collect-all-requires : tie.Need-collect-all-requires
+collect-all-requires : tie.Need-collect_all-requires
 collect-all-requires c κs =
     let d = c.before in
-    file-whole (start d.before).args.file.now (sym d.before.wrong.ensures ∙ d.if1.false)
+    file-whole (start d.before).args.file.now (sym d.wrong.ensures ∙ d.if-wrong.false)
 
-returns-2 : tie.Need-returns-2
+returns-2 : tie.Need-returns
 returns-2 c =
     let k = c.before.before.before in
     let d = k.before.before in
-    collected-so (start d.before).args.file.now _ _ (sym d.before.wrong.ensures ∙ d.if1.false) c.plain2.ensures k.collect-all.ensures
+    collected-so (start d.before).args.file.now _ _ (sym d.wrong.ensures ∙ d.if-wrong.false) c.plain-2.ensures k.collect_all.ensures
 
 pub collect_spec : {M : Type 1} → statement M
 collect_spec =

@@ -8,30 +8,30 @@ use Rattle.plan_change.proofs.WithdrawLaws.{accepted, withdrawn-not, withdrawn-s
 use Rattle.plan_change.proofs.withdraw.Statement.{statement}
 use Rattle.plan_change.proofs.withdraw.Tie as tie
 
-abbrev start : tie.After-refused → tie.Start
-start c = c.before.before.before
+abbrev start : tie.After-refused-outcome → tie.Start
+start c = c.before.before
 
-returns : tie.Need-returns
+returns : tie.Need-returns-then-outcome-ne-FOUND
 returns c =
     let r = c.before.before in
     let a = (start r).args in
-    let e : r.refused.result ≡ withdraw_outcome a.file.now a.plan = r.refused.ensures in
-    withdrawn-not a.file.now a.plan _ _ (λ z. c.before.if1.true (e ∙ z)) (c.plain.ensures ∙ ap plain e) refl
+    let e : r.refused-outcome.result ≡ withdraw_outcome a.file.now a.plan = r.refused-outcome.ensures in
+    withdrawn-not a.file.now a.plan _ _ (λ z. c.if-outcome-ne-FOUND.true (e ∙ z)) (c.plain.ensures ∙ ap plain e) refl
 
-passed : (c : tie.Else1) → let a = (start c.before).args in withdraw_outcome a.file.now a.plan ≡ found
-passed c = sym c.before.refused.ensures ∙ c.if1.false
+passed : (c : tie.Else-outcome-ne-FOUND) → let a = (start c.before).args in withdraw_outcome a.file.now a.plan ≡ found
+passed c = sym c.refused-outcome.ensures ∙ c.if-outcome-ne-FOUND.false
 
-clear-all-requires : tie.Need-clear-all-requires
+clear-all-requires : tie.Need-clear_all-requires
 clear-all-requires c κs =
     let a = (start c.before.before).args in
     file-whole a.file.now (accepted a.file.now a.plan (passed c.before))
 
-returns-2 : tie.Need-returns-2
+returns-2 : tie.Need-returns
 returns-2 c =
     let k = c.before.before.before in
     let d = k.before.before in
     let a = (start d.before).args in
-    withdrawn-so a.file.now a.plan _ _ (passed d) c.plain2.ensures k.clear-all.ensures
+    withdrawn-so a.file.now a.plan _ _ (passed d) c.plain-2.ensures k.clear_all.ensures
 
 pub withdraw_spec : {M : Type 1} → statement M
 withdraw_spec =

@@ -11,25 +11,25 @@ abbrev start : tie.After-plan → tie.Start
 start c = c.before.before
 
 -- the record is of the plan
-same : (c : tie.Else1) → plan_at (start c.before).args.file.now (start c.before).args.i ≡ (start c.before).args.plan
-same c = sym c.before.plan.ensures ∙ c.if1.false
+same : (c : tie.Else-plan) → plan_at (start c.before).args.file.now (start c.before).args.i ≡ (start c.before).args.plan
+same c = sym c.plan.ensures ∙ c.if-plan.false
 
-returns : tie.Need-returns
+returns : tie.Need-returns-then-plan
 returns c =
     let a = (start c.before).args in
-    rw (ne_eqb (plan_at a.file.now a.i) a.plan (λ z. c.if1.true (c.before.plan.ensures ∙ z)))
+    rw (ne_eqb (plan_at a.file.now a.i) a.plan (λ z. c.if-plan.true (c.plan.ensures ∙ z)))
 
-returns-2 : tie.Need-returns-2
+returns-2 : tie.Need-returns-then-rank-count
 returns-2 c =
     let e = c.before.before in
     let a = (start e.before).args in
-    rw (eq-eqb (plan_at a.file.now a.i) a.plan (same e), lt-leb a.count (rank_at a.file.now a.i) (omega (arith, c.before.rank.ensures)))
+    rw (eq-eqb (plan_at a.file.now a.i) a.plan (same e), lt-leb a.count (rank_at a.file.now a.i) (omega (arith, c.rank-rank.ensures)))
 
-returns-3 : tie.Need-returns-3
+returns-3 : tie.Need-returns
 returns-3 c =
     let e = c.before.before in
     let a = (start e.before).args in
-    rw (eq-eqb (plan_at a.file.now a.i) a.plan (same e), le-leb a.count (rank_at a.file.now a.i) (omega (arith, c.before.rank.ensures))) (omega arith)
+    rw (eq-eqb (plan_at a.file.now a.i) a.plan (same e), le-leb a.count (rank_at a.file.now a.i) (omega (arith, c.rank-rank.ensures))) (omega arith)
 
 pub counted_spec : {M : Type 1} → statement M
 counted_spec = tie.close (tie.spec (λ c κs. search rules) returns (λ c κs. search rules) (λ c. search rules) returns-2 (λ c. search rules) returns-3)

@@ -9,41 +9,41 @@ use Rattle.plan_fetch.proofs.fetch.Tie as tie
 abbrev start : tie.After-wrong → tie.Start
 start c = c.before.before.before
 
-returns : tie.Need-returns
+returns : tie.Need-returns-then-wrong
 returns c =
     let w = c.before.before in
     let a = (start w).args in
-    refused-file a.file.now a.plan a.slots.now a.width c.plain.result a.slots.now (sym w.wrong.ensures ∙ c.before.if1.true) c.plain.ensures refl
+    refused-file a.file.now a.plan a.slots.now a.width c.plain.result a.slots.now (sym w.wrong.ensures ∙ c.if-wrong.true) c.plain.ensures refl
 
-returns-2 : tie.Need-returns-2
+returns-2 : tie.Need-returns-then-plan-eq0
 returns-2 c =
     let w = c.before.before.before in
     let a = (start w).args in
-    refused-request a.file.now a.plan a.slots.now a.width c.plain2.result a.slots.now (sym w.wrong.ensures ∙ c.before.before.if1.false) c.before.if2.true
-    c.plain2.ensures refl
+    refused-request a.file.now a.plan a.slots.now a.width c.plain-then-plan-eq0.result a.slots.now (sym w.wrong.ensures ∙ c.if-wrong.false) c.if-plan-eq0.true
+    c.plain-then-plan-eq0.ensures refl
 
-returns-3 : tie.Need-returns-3
+returns-3 : tie.Need-returns-then-not-has_plan
 returns-3 c =
     let h = c.before.before in
     let w = h.before.before.before in
     let a = (start w).args in
-    refused-there a.file.now a.plan a.slots.now a.width c.plain3.result a.slots.now (sym w.wrong.ensures ∙ h.before.before.if1.false) h.before.if2.false
-    (sym h.has-plan.ensures ∙ not-true h.has-plan.result c.before.if3.true) c.plain3.ensures refl
+    refused-there a.file.now a.plan a.slots.now a.width c.plain-then-not-has_plan.result a.slots.now (sym w.wrong.ensures ∙ h.if-wrong.false) h.if-plan-eq0.false
+    (sym h.has_plan.ensures ∙ c.if-not-has_plan.true) c.plain-then-not-has_plan.ensures refl
 
 answer-requires : tie.Need-answer-requires
 answer-requires c κs =
     let h = c.before.before in
     let w = h.before.before.before in
-    (sym w.wrong.ensures ∙ h.before.before.if1.false, h.before.if2.false)
+    (sym w.wrong.ensures ∙ h.if-wrong.false, h.if-plan-eq0.false)
 
-returns-4 : tie.Need-returns-4
+returns-4 : tie.Need-returns
 returns-4 c =
     let r = c.before.before in
     let h = r.before.before.before in
     let w = h.before.before.before in
     let a = (start w).args in
-    answered a.file.now a.plan a.slots.now a.width r.answer.result r.answer.new.1.1.0 (sym w.wrong.ensures ∙ h.before.before.if1.false) h.before.if2.false
-    (sym h.has-plan.ensures ∙ not-false h.has-plan.result r.before.before.if3.false) r.answer.ensures.0 r.answer.ensures.1
+    answered a.file.now a.plan a.slots.now a.width r.answer.result r.answer.new.slots (sym w.wrong.ensures ∙ h.if-wrong.false) h.if-plan-eq0.false
+    (sym h.has_plan.ensures ∙ r.if-not-has_plan.false) r.answer.ensures.0 r.answer.ensures.1
 
 pub fetch_spec : {M : Type 1} → statement M
 fetch_spec =

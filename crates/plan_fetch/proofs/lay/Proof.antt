@@ -16,119 +16,119 @@ use Rattle.plan_fetch.proofs.LayLaws.{Laid, laid_none, laid-self, laid-over, lai
 use Rattle.plan_fetch.proofs.lay.Statement.{statement}
 use Rattle.plan_fetch.proofs.lay.Tie as tie
 
-abbrev invariant-loop : tie.invariant-loop
-invariant-loop file plan slots₀ width routes n i₀ slots i = (i ≤ records file) × Laid file plan width routes slots₀ i slots
+abbrev invariant-loop-i : tie.invariant-loop-i
+invariant-loop-i file plan slots₀ width routes n i₀ slots i = (i ≤ records file) × Laid file plan width routes slots₀ i slots
 
-abbrev decreases-loop : tie.decreases-loop
-decreases-loop file plan slots₀ width routes n i₀ slots i = records file - i
+abbrev decreases-loop-i : tie.decreases-loop-i
+decreases-loop-i file plan slots₀ width routes n i₀ slots i = records file - i
 
-abbrev filled : tie.After-slice-known2 invariant-loop decreases-loop → tie.After-fill32-part invariant-loop decreases-loop
+abbrev filled : tie.After-slice_known-2-1 invariant-loop-i decreases-loop-i → tie.After-fill32_part invariant-loop-i decreases-loop-i
 filled k = k.before.before
 
-abbrev start : tie.After-fill32-part invariant-loop decreases-loop → tie.Start invariant-loop decreases-loop
+abbrev start : tie.After-fill32_part invariant-loop-i decreases-loop-i → tie.Start invariant-loop-i decreases-loop-i
 start c = c.before.before.before.before
 
-sound : (s : tie.Start invariant-loop decreases-loop) → Sound s.args.file.now
+sound : (s : tie.Start invariant-loop-i decreases-loop-i) → Sound s.args.file.now
 sound s = sound-e s.args.file.now s.requires.0
 
 -- the slots are in the area
-roomy : (s : tie.Start invariant-loop decreases-loop) → s.args.routes * s.args.width ≤ length s.args.slots.now
+roomy : (s : tie.Start invariant-loop-i decreases-loop-i) → s.args.routes * s.args.width ≤ length s.args.slots.now
 roomy s =
     omega (arith, ap (λ x. x * s.args.width) s.requires.2, room s.args.file.now (sound s) s.args.plan s.requires.1 s.args.width s.args.slots.now s.requires.3)
 
 -- what the fill left
-blank : (k : tie.After-slice-known2 invariant-loop decreases-loop)
-    → Laid (start (filled k)).args.file.now (start (filled k)).args.plan (start (filled k)).args.width (start (filled k)).args.routes (start (filled k)).args.slots.now 0 (filled k).fill32-part.new.0
+blank : (k : tie.After-slice_known-2-1 invariant-loop-i decreases-loop-i)
+    → Laid (start (filled k)).args.file.now (start (filled k)).args.plan (start (filled k)).args.width (start (filled k)).args.routes (start (filled k)).args.slots.now 0 (filled k).fill32_part.new.b
 blank k =
     let s = start (filled k) in
-    laid_none s.args.file.now s.args.plan s.args.width s.args.routes s.args.slots.now (filled k).fill32-part.new.0 (roomy s) (filled k).fill32-part.ensures
+    laid_none s.args.file.now s.args.plan s.args.width s.args.routes s.args.slots.now (filled k).fill32_part.new.b (roomy s) (filled k).fill32_part.ensures
 
-mul-fill32-part : tie.Need-overflow-mul-fill32-part invariant-loop decreases-loop
+mul-fill32-part : tie.Need-overflow_mul-routes invariant-loop-i decreases-loop-i
 mul-fill32-part c = omega (arith, roomy c.before.before.before)
 
-fill32-part-requires : tie.Need-fill32-part-requires invariant-loop decreases-loop
+fill32-part-requires : tie.Need-fill32_part-requires invariant-loop-i decreases-loop-i
 fill32-part-requires c κs = (omega arith, omega (arith, roomy c.before.before.before))
 
-loop-holds : tie.Need-loop-init invariant-loop decreases-loop
+loop-holds : tie.Need-loop-i-init invariant-loop-i decreases-loop-i
 loop-holds c = (omega arith, laid-self _ _ _ _ _ _ _ (blank c))
 
 -- a record of the plan: its arcs lie in the area, and once they are written it is passed
-module _ (t : tie.Then1 invariant-loop decreases-loop) where
-  abbrev l : tie.At-loop invariant-loop decreases-loop
+module _ (t : tie.Then-plan invariant-loop-i decreases-loop-i) where
+  abbrev l : tie.At-loop-i invariant-loop-i decreases-loop-i
   l = t.before.before.before
 
-  abbrev s : tie.Start invariant-loop decreases-loop
+  abbrev s : tie.Start invariant-loop-i decreases-loop-i
   s = start (filled l.before)
 
   abbrev f : List ℕ
   f = s.args.file.now
 
   abbrev i : ℕ
-  i = l.loop.i
+  i = l.loop-i.i
 
   here : i < records f
   here = omega arith
 
   of-plan : plan_at f i ≡ s.args.plan
-  of-plan = sym t.before.plan.ensures ∙ t.if1.taken
+  of-plan = sym t.plan.ensures ∙ t.if-plan.true
 
   low : rank_at f i < s.args.routes
-  low = omega (arith, (plan-ranked f (sound s) s.args.plan s.pre.1).below i here of-plan, s.pre.2)
+  low = omega (arith, (plan-ranked f (sound s) s.args.plan s.requires.1).below i here of-plan, s.requires.2)
 
   fits : part_at f i * part_arcs + used_at f i ≤ s.args.width
-  fits = record-fits f (sound s) s.args.plan s.pre.1 s.args.width s.args.slots.now s.pre.3 i here of-plan
+  fits = record-fits f (sound s) s.args.plan s.requires.1 s.args.width s.args.slots.now s.requires.3 i here of-plan
 
-  many : s.args.routes * s.args.width ≤ length (filled l.before).fill32-part.last.0
+  many : s.args.routes * s.args.width ≤ length (filled l.before).fill32_part.new.b
   many = omega (arith, roomy s, (blank l.before).size)
 
-  inside : rank_at f i * s.args.width + part_at f i * part_arcs + used_at f i ≤ length l.loop.slots
-  inside = in_area f (sound s) s.args.plan s.pre.1 s.args.width s.args.routes (filled l.before).fill32-part.last.0 i l.loop.slots here of-plan low fits many l.loop.inv.1
+  inside : rank_at f i * s.args.width + part_at f i * part_arcs + used_at f i ≤ length l.loop-i.slots
+  inside = in_area f (sound s) s.args.plan s.requires.1 s.args.width s.args.routes (filled l.before).fill32_part.new.b i l.loop-i.slots here of-plan low fits many l.loop-i.invariant.1
 
-  passed : Laid f s.args.plan s.args.width s.args.routes (filled l.before).fill32-part.last.0 (i + 1)
-      (patch (rank_at f i * s.args.width + part_at f i * part_arcs) (rank_at f i * s.args.width + part_at f i * part_arcs + used_at f i) l.loop.slots (arcs_at f i))
-  passed = laid-step f (sound s) s.args.plan s.pre.1 s.args.width s.args.routes (filled l.before).fill32-part.last.0 i l.loop.slots here of-plan low fits many l.loop.inv.1
+  passed : Laid f s.args.plan s.args.width s.args.routes (filled l.before).fill32_part.new.b (i + 1)
+      (patch (rank_at f i * s.args.width + part_at f i * part_arcs) (rank_at f i * s.args.width + part_at f i * part_arcs + used_at f i) l.loop-i.slots (arcs_at f i))
+  passed = laid-step f (sound s) s.args.plan s.requires.1 s.args.width s.args.routes (filled l.before).fill32_part.new.b i l.loop-i.slots here of-plan low fits many l.loop-i.invariant.1
 
-put-part-requires : tie.Need-put-part-requires invariant-loop decreases-loop
+put-part-requires : tie.Need-put_part-requires invariant-loop-i decreases-loop-i
 put-part-requires c κs =
     let t = c.before in
     (here t, used-most (f t) (sound (s t)) (i t) (here t) (λ z. (s t).requires.1 (sym (of-plan t) ∙ z)), omega (arith, inside t))
 
-loop-again : tie.Need-loop-preserved invariant-loop decreases-loop
+loop-again : tie.Need-loop-i-preserved invariant-loop-i decreases-loop-i
 loop-again c =
     let l = c.before.before.before in
     let s = start (filled l.before) in
     let a = s.args in
-    let on = (filled l.before).fill32-part.last.0 in (
+    let on = (filled l.before).fill32_part.new.b in (
       omega arith,
       ⊎_elim
-          (λ w. subst (Laid a.file.now a.plan a.width a.routes on (l.loop.i + 1)) (sym (w.5 ∙ w.2.ensures)) (passed (record { before = c.before; if1 = w.0 })))
+          (λ w. subst (Laid a.file.now a.plan a.width a.routes on (l.loop-i.i + 1)) (sym (w.slots-is ∙ w.put_part.ensures)) (passed (record { before = c.before; if-plan = w.if-plan })))
           (λ w.
-          subst (Laid a.file.now a.plan a.width a.routes on (l.loop.i + 1)) (sym w.1)
-          (laid-skip a.file.now a.plan a.width a.routes on l.loop.i l.loop.slots (omega arith) (λ z. w.0.left (c.before.plan.ensures ∙ z)) l.loop.invariant.1))
-          c.if1.branch,
+          subst (Laid a.file.now a.plan a.width a.routes on (l.loop-i.i + 1)) (sym w.slots-is)
+          (laid-skip a.file.now a.plan a.width a.routes on l.loop-i.i l.loop-i.slots (omega arith) (λ z. w.if-plan.false (c.plan.ensures ∙ z)) l.loop-i.invariant.1))
+          c.if-plan.branch-raw,
     )
 
-same_length : tie.Need-same-length invariant-loop decreases-loop
+same_length : tie.Need-shape_of-slots invariant-loop-i decreases-loop-i
 same_length c =
     let a = c.before in
-    omega (arith, a.loop.invariant.1.size, (blank a.before).size)
+    omega (arith, a.loop-i.invariant.1.size, (blank a.before).size)
 
-returns : tie.Need-returns invariant-loop decreases-loop
+returns : tie.Need-returns invariant-loop-i decreases-loop-i
 returns c =
     let a = c.before in
     let s = start (filled a.before) in
     let f = s.args.file.now in
     let x = s.args in
-    laid-all f (sound s) x.plan s.pre.1 x.width x.slots.now s.pre.3 a.loop.i a.loop.slots (omega arith)
-    (subst (λ n. Laid f x.plan x.width n x.slots.now a.loop.i a.loop.slots) s.pre.2
-    (laid-over f x.plan x.width x.routes x.slots.now 0 (filled a.before).fill32-part.last.0 a.loop.i a.loop.slots (blank a.before) a.loop.invariant.1))
+    laid-all f (sound s) x.plan s.requires.1 x.width x.slots.now s.requires.3 a.loop-i.i a.loop-i.slots (omega arith)
+    (subst (λ n. Laid f x.plan x.width n x.slots.now a.loop-i.i a.loop-i.slots) s.requires.2
+    (laid-over f x.plan x.width x.routes x.slots.now 0 (filled a.before).fill32_part.new.b a.loop-i.i a.loop-i.slots (blank a.before) a.loop-i.invariant.1))
 
 pub lay_spec : {M : Type 1} → statement M
 lay_spec =
     tie.close
     (tie.spec
-    invariant-loop
-    decreases-loop
+    invariant-loop-i
+    decreases-loop-i
     mul-fill32-part
     fill32-part-requires
     loop-holds

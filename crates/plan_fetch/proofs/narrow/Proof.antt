@@ -12,47 +12,47 @@ use Rattle.plan_fetch.proofs.PassLaws.{reaches_at, narrow-is}
 use Rattle.plan_fetch.proofs.narrow.Statement.{statement}
 use Rattle.plan_fetch.proofs.narrow.Tie as tie
 
-abbrev invariant-loop : tie.invariant-loop
-invariant-loop file plan width n i₀ i = (i ≤ records file) × (any (reaches_at file plan width) (rest (records file) i) ≡ any (reaches_at file plan width) (up_from 0 (records file)))
+abbrev invariant-loop-i : tie.invariant-loop-i
+invariant-loop-i file plan width n i₀ i = (i ≤ records file) × (any (reaches_at file plan width) (rest (records file) i) ≡ any (reaches_at file plan width) (up_from 0 (records file)))
 
-abbrev decreases-loop : tie.decreases-loop
-decreases-loop file plan width n i₀ i = records file - i
+abbrev decreases-loop-i : tie.decreases-loop-i
+decreases-loop-i file plan width n i₀ i = records file - i
 
-loop-holds : tie.Need-loop-init invariant-loop decreases-loop
+loop-holds : tie.Need-loop-i-init invariant-loop-i decreases-loop-i
 loop-holds c =
-    let a = c.before.args in
+    let a = c.args in
     (omega arith, from_first (any (reaches_at a.file.now a.plan a.width)) (records a.file.now))
 
-returns : tie.Need-returns invariant-loop decreases-loop
+returns : tie.Need-returns-then-reaches invariant-loop-i decreases-loop-i
 returns c =
     let l = c.before.before.before in
     let s = l.before.before in
     let f = s.args.file.now in
-    let t = one-stop (reaches_at f s.args.plan s.args.width) l.loop.i (records f) (omega arith) (sym c.before.reaches.ensures ∙ c.if1.true) in
-    sym t ∙ l.loop.invariant.1 ∙ narrow-is f (sound-e f s.requires.0) s.args.plan s.requires.1 s.args.width
+    let t = one-stop (reaches_at f s.args.plan s.args.width) l.loop-i.i (records f) (omega arith) (sym c.reaches.ensures ∙ c.if-reaches.true) in
+    sym t ∙ l.loop-i.invariant.1 ∙ narrow-is f (sound-e f s.requires.0) s.args.plan s.requires.1 s.args.width
 
-loop-again : tie.Need-loop-preserved invariant-loop decreases-loop
+loop-again : tie.Need-loop-i-preserved invariant-loop-i decreases-loop-i
 loop-again c =
     let l = c.before.before.before in
     let s = l.before.before in
     let f = s.args.file.now in
-    let t = one-step (reaches_at f s.args.plan s.args.width) l.loop.i (records f) (omega arith) (sym c.before.reaches.ensures ∙ c.if1.false) in
-    (omega arith, sym t ∙ l.loop.invariant.1)
+    let t = one-step (reaches_at f s.args.plan s.args.width) l.loop-i.i (records f) (omega arith) (sym c.reaches.ensures ∙ c.if-reaches.false) in
+    (omega arith, sym t ∙ l.loop-i.invariant.1)
 
-returns-2 : tie.Need-returns-2 invariant-loop decreases-loop
+returns-2 : tie.Need-returns invariant-loop-i decreases-loop-i
 returns-2 c =
     let l = c.before in
     let s = l.before.before in
     let f = s.args.file.now in
-    let t = one-done (reaches_at f s.args.plan s.args.width) l.loop.i (records f) (omega arith) in
-    sym t ∙ l.loop.invariant.1 ∙ narrow-is f (sound-e f s.requires.0) s.args.plan s.requires.1 s.args.width
+    let t = one-done (reaches_at f s.args.plan s.args.width) l.loop-i.i (records f) (omega arith) in
+    sym t ∙ l.loop-i.invariant.1 ∙ narrow-is f (sound-e f s.requires.0) s.args.plan s.requires.1 s.args.width
 
 pub narrow_spec : {M : Type 1} → statement M
 narrow_spec =
     tie.close
     (tie.spec
-    invariant-loop
-    decreases-loop
+    invariant-loop-i
+    decreases-loop-i
     loop-holds
     (λ c κs. search rules)
     returns

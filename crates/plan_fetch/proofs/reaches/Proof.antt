@@ -6,16 +6,16 @@ use Rattle.plan_record.specs.Record.{plan_at}
 use Rattle.plan_fetch.proofs.reaches.Statement.{statement}
 use Rattle.plan_fetch.proofs.reaches.Tie as tie
 
-returns : tie.Need-returns
+returns : tie.Need-returns-then-plan
 returns c =
-    let a = c.before.before.before.args in
-    rw (ne_eqb (plan_at a.file.now a.i) a.plan (λ z. c.if1.true (c.before.plan.ensures ∙ z)))
+    let a = c.args in
+    rw (ne_eqb (plan_at a.file.now a.i) a.plan (λ z. c.if-plan.true (c.plan.ensures ∙ z)))
 
-returns-2 : tie.Need-returns-2
+returns-2 : tie.Need-returns
 returns-2 c =
     let e = c.before.before in
-    let a = e.before.before.before.args in
-    rw (eq-eqb (plan_at a.file.now a.i) a.plan (sym e.before.plan.ensures ∙ e.if1.false)) (cc)
+    let a = e.args in
+    rw (eq-eqb (plan_at a.file.now a.i) a.plan (sym e.plan.ensures ∙ e.if-plan.false)) (cc)
 
 pub reaches_spec : {M : Type 1} → statement M
 reaches_spec =

@@ -8,34 +8,34 @@ use Rattle.plan_fetch.proofs.PassLaws.{Counted, counted_none, counted_step, coun
 use Rattle.plan_fetch.proofs.routes.Statement.{statement}
 use Rattle.plan_fetch.proofs.routes.Tie as tie
 
-abbrev invariant-loop : tie.invariant-loop
-invariant-loop file plan n count₀ i₀ count i = (i ≤ records file) × Counted file plan i count
+abbrev invariant-loop-i : tie.invariant-loop-i
+invariant-loop-i file plan n count₀ i₀ count i = (i ≤ records file) × Counted file plan i count
 
-abbrev decreases-loop : tie.decreases-loop
-decreases-loop file plan n count₀ i₀ count i = records file - i
+abbrev decreases-loop-i : tie.decreases-loop-i
+decreases-loop-i file plan n count₀ i₀ count i = records file - i
 
-abbrev start : tie.At-loop invariant-loop decreases-loop → tie.Start invariant-loop decreases-loop
+abbrev start : tie.At-loop-i invariant-loop-i decreases-loop-i → tie.Start invariant-loop-i decreases-loop-i
 start a = a.before.before
 
-loop-again : tie.Need-loop-preserved invariant-loop decreases-loop
+loop-again : tie.Need-loop-i-preserved invariant-loop-i decreases-loop-i
 loop-again c =
     let a = c.before.before in
     let s = start a in
-    (search rules, rw c.counted.ensures (counted_step s.args.file.now (sound-e s.args.file.now s.pre.0) s.args.plan s.pre.1 a.loop.i a.loop.count (omega arith) a.loop.invariant.1))
+    (search rules, rw c.counted-count.ensures (counted_step s.args.file.now (sound-e s.args.file.now s.requires.0) s.args.plan s.requires.1 a.loop-i.i a.loop-i.count (omega arith) a.loop-i.invariant.1))
 
-returns : tie.Need-returns invariant-loop decreases-loop
+returns : tie.Need-returns invariant-loop-i decreases-loop-i
 returns c =
     let a = c.before in
     let s = start a in
-    counted-all s.args.file.now (sound-e s.args.file.now s.pre.0) s.args.plan s.pre.1 a.loop.i a.loop.count (omega arith) a.loop.invariant.1
+    counted-all s.args.file.now (sound-e s.args.file.now s.requires.0) s.args.plan s.requires.1 a.loop-i.i a.loop-i.count (omega arith) a.loop-i.invariant.1
 
 pub routes_spec : {M : Type 1} → statement M
 routes_spec =
     tie.close
     (tie.spec
-    invariant-loop
-    decreases-loop
-    (λ c. (omega arith, counted_none c.before.args.file.now c.before.args.plan))
+    invariant-loop-i
+    decreases-loop-i
+    (λ c. (omega arith, counted_none c.args.file.now c.args.plan))
     (λ c κs. search rules)
     (λ c. search rules)
     (λ c. search rules)

@@ -8,24 +8,24 @@ use borrow.Author.Tests.{ltb-true}
 use Rattle.plan_file.proofs.below.Statement.{statement}
 use Rattle.plan_file.proofs.below.Tie as tie
 
-returns : tie.Need-returns
+returns : tie.Need-returns-then-plan
 returns c e p =
     let a = c.before in
-    absurd (c.if1.true (a.before.plan.ensures ∙ p ∙ sym a.plan2.ensures))
+    absurd (c.if-plan.true (a.before.plan.ensures ∙ p ∙ sym a.plan-2.ensures))
 
-returns-2 : tie.Need-returns-2
+returns-2 : tie.Need-returns-then-a-b
 returns-2 c e p =
     let r = c.before in
-    inl (omega (arith, r.rank2.ensures, r.before.rank.ensures, c.if2.true))
+    inl (omega (arith, r.rank-b.ensures, r.before.rank-a.ensures, c.if-a-b.true))
 
-returns-3 : tie.Need-returns-3
+returns-3 : tie.Need-returns-then-b-a
 returns-3 c e p = let z : ◌≡◌ {A = ℕ} 0 1 = cc in absurd (omega arith)
 
-returns-4 : tie.Need-returns-4
+returns-4 : tie.Need-returns
 returns-4 c e p =
     let d = c.before.before in
     let r = d.before.before in
-    inr (omega (arith, r.rank2.ensures, r.before.rank.ensures, d.if3.false, d.before.if2.false), omega (arith, c.part2.ensures, c.before.part.ensures, ltb-true c.before.part.result c.part2.result e))
+    inr (omega (arith, r.rank-b.ensures, r.before.rank-a.ensures, d.if-b-a.false, d.before.if-a-b.false), omega (arith, c.part-2.ensures, c.before.part.ensures, ltb-true c.before.part.result c.part-2.result e))
 
 pub below_spec : {M : Type 1} → statement M
 below_spec =

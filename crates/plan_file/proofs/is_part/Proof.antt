@@ -9,25 +9,25 @@ use Rattle.plan_file.proofs.is_part.Tie as tie
 abbrev start : tie.After-plan → tie.Start
 start c = c.before.before
 
-returns : tie.Need-returns
+returns : tie.Need-returns-then-plan
 returns c =
     let s = start c.before in
-    rw (ne_eqb (plan_at s.args.file.now s.args.k) s.args.plan (λ z. c.if1.true (c.before.plan.ensures ∙ z)))
+    rw (ne_eqb (plan_at s.args.file.now s.args.k) s.args.plan (λ z. c.if-plan.true (c.before.plan.ensures ∙ z)))
 
-returns-2 : tie.Need-returns-2
+returns-2 : tie.Need-returns-then-rank
 returns-2 c =
     let r = c.before in
     let e = r.before in
     let s = start e.before in
-    rw (eq-eqb (plan_at s.args.file.now s.args.k) s.args.plan (sym e.before.plan.ensures ∙ e.if1.false), ne_eqb (rank_at s.args.file.now s.args.k) s.args.rank (λ z. c.if2.true (r.rank.ensures ∙ z)))
+    rw (eq-eqb (plan_at s.args.file.now s.args.k) s.args.plan (sym e.before.plan.ensures ∙ e.if-plan.false), ne_eqb (rank_at s.args.file.now s.args.k) s.args.rank (λ z. c.if-rank.true (r.rank.ensures ∙ z)))
 
-returns-3 : tie.Need-returns-3
+returns-3 : tie.Need-returns
 returns-3 c =
     let d = c.before in
     let r = d.before in
     let e = r.before in
     let s = start e.before in
-    rw (eq-eqb (plan_at s.args.file.now s.args.k) s.args.plan (sym e.before.plan.ensures ∙ e.if1.false), eq-eqb (rank_at s.args.file.now s.args.k) s.args.rank (sym r.rank.ensures ∙ d.if2.false)) (cc)
+    rw (eq-eqb (plan_at s.args.file.now s.args.k) s.args.plan (sym e.before.plan.ensures ∙ e.if-plan.false), eq-eqb (rank_at s.args.file.now s.args.k) s.args.rank (sym r.rank.ensures ∙ d.if-rank.false)) (cc)
 
 pub is_part_spec : {M : Type 1} → statement M
 is_part_spec =

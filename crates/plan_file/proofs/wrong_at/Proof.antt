@@ -14,40 +14,40 @@ use Rattle.plan_file.proofs.wrong_at.Tie as tie
 abbrev start : tie.After-formed → tie.Start
 start c = c.before.before
 
-returns : tie.Need-returns
+returns : tie.Need-returns-then-not-formed
 returns c =
     let s = start c.before in
-    sym (wrong-unformed s.args.file.now s.args.i (sym c.before.formed.ensures ∙ not-true _ c.if1.true))
+    sym (wrong-unformed s.args.file.now s.args.i (sym c.before.formed.ensures ∙ c.if-not-formed.true))
 
 -- the record has its form
-fine : (c : tie.Else1) → formed (start c.before).args.file.now (start c.before).args.i ≡ true
-fine c = sym c.before.formed.ensures ∙ not-false _ c.if1.false
+fine : (c : tie.Else-not-formed) → formed (start c.before).args.file.now (start c.before).args.i ≡ true
+fine c = sym c.before.formed.ensures ∙ c.if-not-formed.false
 
-returns-2 : tie.Need-returns-2
+returns-2 : tie.Need-returns-then-plan-eq0
 returns-2 c =
     let p = c.before in
     let s = start p.before.before in
-    sym (right-free s.args.file.now s.args.i (fine p.before) (sym p.plan.ensures ∙ c.if2.true))
+    sym (right-free s.args.file.now s.args.i (fine p.before) (sym p.plan.ensures ∙ c.if-plan-eq0.true))
 
-returns-3 : tie.Need-returns-3
+returns-3 : tie.Need-returns-then-double
 returns-3 c =
     let e = c.before.before.before in
     let p = e.before in
     let s = start p.before.before in
-    sym (wrong-double s.args.file.now s.args.i (fine p.before) (λ z. e.if2.false (p.plan.ensures ∙ z)) (sym c.before.double.ensures ∙ c.if4.true))
+    sym (wrong-double s.args.file.now s.args.i (fine p.before) (λ z. e.if-plan-eq0.false (p.plan.ensures ∙ z)) (sym c.before.double.ensures ∙ c.if-double.true))
 
 -- by either way it is no double
-single : (c : tie.Joined3) → is_double (start c.before.before.before.before).args.file.now (start c.before.before.before.before).args.i ≡ false
+single : (c : tie.Joined-not-highest) → is_double (start c.before.before.before.before).args.file.now (start c.before.before.before.before).args.i ≡ false
 single c =
     let s = start c.before.before.before.before in
-    ⊎_elim (λ w. sym w.1.ensures ∙ w.2.left) (λ w. highest-single s.args.file.now s.args.i (s.pre.1 (not-false _ w.left))) c.if3.branch
+    ⊎_elim (λ w. sym w.double.ensures ∙ w.if-double.false) (λ w. highest-single s.args.file.now s.args.i (s.requires.1 w.if-not-highest.false)) c.if-not-highest.branch-raw
 
-returns-4 : tie.Need-returns-4
+returns-4 : tie.Need-returns
 returns-4 c =
     let e = c.before.before in
     let p = e.before in
     let s = start p.before.before in
-    c.gap.ensures ∙ sym (wrong-gap s.args.file.now s.args.i (fine p.before) (λ z. e.if2.false (p.plan.ensures ∙ z)) (single c.before))
+    c.gap.ensures ∙ sym (wrong-gap s.args.file.now s.args.i (fine p.before) (λ z. e.if-plan-eq0.false (p.plan.ensures ∙ z)) (single c.before))
 
 pub wrong_at_spec : {M : Type 1} → statement M
 wrong_at_spec =

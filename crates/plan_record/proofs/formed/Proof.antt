@@ -9,19 +9,19 @@ use Rattle.plan_record.proofs.formed.Tie as tie
 abbrev start : tie.After-plan → tie.Start
 start c = c.before.before
 
-returns : tie.Need-returns
+returns : tie.Need-returns-then-plan-eq0
 unfolding formed
 returns c =
     let p = c.before.before in
     let s = start p in
-    rw (eq-eqb (plan_at s.args.file.now s.args.i) 0 (sym p.plan.ensures ∙ c.before.if1.true)) c.blank.ensures
+    rw (eq-eqb (plan_at s.args.file.now s.args.i) 0 (sym p.plan.ensures ∙ c.before.if-plan-eq0.true)) c.blank.ensures
 
-returns-2 : tie.Need-returns-2
+returns-2 : tie.Need-returns
 unfolding formed
 returns-2 c =
     let p = c.before.before in
     let s = start p in
-    rw (ne_eqb (plan_at s.args.file.now s.args.i) 0 (λ z. c.before.if1.false (p.plan.ensures ∙ z))) c.formed-use.ensures
+    rw (ne_eqb (plan_at s.args.file.now s.args.i) 0 (λ z. c.before.if-plan-eq0.false (p.plan.ensures ∙ z))) c.formed_use.ensures
 
 pub formed_spec : {M : Type 1} → statement M
 formed_spec =

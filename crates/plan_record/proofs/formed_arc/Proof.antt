@@ -9,19 +9,19 @@ use Rattle.plan_record.proofs.formed_arc.Tie as tie
 abbrev start : tie.After-used → tie.Start
 start c = c.before.before.before
 
-returns : tie.Need-returns
+returns : tie.Need-returns-then-j-used
 unfolding formed_arc
 returns c =
     let u = c.before in
     let s = start u in
-    rw (lt-ltb s.args.j (used_at s.args.file.now s.args.i) (omega (arith, u.used.ensures, c.if1.true))) (cc)
+    rw (lt-ltb s.args.j (used_at s.args.file.now s.args.i) (omega (arith, u.used.ensures, c.if-j-used.true))) (cc)
 
-returns-2 : tie.Need-returns-2
+returns-2 : tie.Need-returns
 unfolding formed_arc
 returns-2 c =
     let u = c.before in
     let s = start u in
-    rw (le-ltb s.args.j (used_at s.args.file.now s.args.i) (omega (arith, u.used.ensures, c.if1.false))) (cc)
+    rw (le-ltb s.args.j (used_at s.args.file.now s.args.i) (omega (arith, u.used.ensures, c.if-j-used.false))) (cc)
 
 pub formed_arc_spec : {M : Type 1} → statement M
 formed_arc_spec =

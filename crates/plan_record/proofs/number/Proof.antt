@@ -8,10 +8,10 @@ use Rattle.plan_record.proofs.StoreLaws.{get_or-within}
 use Rattle.plan_record.proofs.number.Statement.{statement}
 use Rattle.plan_record.proofs.number.Tie as tie
 
-returns : tie.Need-returns
-returns c = get_or-within c.before.before.args.arcs.now c.before.before.args.j 0 no_number c.before.if1.true
+returns : tie.Need-returns-then-j-arcs
+returns c = get_or-within c.before.before.args.arcs.now c.before.before.args.j 0 no_number c.before.if-j-arcs.true
 
-returns-2 : tie.Need-returns-2
+returns-2 : tie.Need-returns
 returns-2 c = sym (get_or-eq_default c.before.args.arcs.now no_number (omega arith))
 
 pub number_spec : {M : Type 1} → statement M

@@ -10,39 +10,39 @@ use Rattle.plan_record.proofs.StoreLaws.{room, stored_to, stored-none, stored_mo
 use Rattle.plan_record.proofs.put_arcs.Statement.{statement}
 use Rattle.plan_record.proofs.put_arcs.Tie as tie
 
-abbrev invariant-loop : tie.invariant-loop
-invariant-loop file₀ i arcs j₀ file j = (j ≤ part_arcs) × (length file ≡ length file₀) × (file ≡ stored_to file₀ (i * record_bytes) arcs j)
+abbrev invariant-loop-j : tie.invariant-loop-j
+invariant-loop-j file₀ i arcs j₀ file j = (j ≤ part_arcs) × (length file ≡ length file₀) × (file ≡ stored_to file₀ (i * record_bytes) arcs j)
 
-abbrev decreases-loop : tie.decreases-loop
-decreases-loop file₀ i arcs j₀ file j = part_arcs - j
+abbrev decreases-loop-j : tie.decreases-loop-j
+decreases-loop-j file₀ i arcs j₀ file j = part_arcs - j
 
-abbrev start : tie.At-loop invariant-loop decreases-loop → tie.Start invariant-loop decreases-loop
+abbrev start : tie.At-loop-j invariant-loop-j decreases-loop-j → tie.Start invariant-loop-j decreases-loop-j
 start a = a.before.before.before
 
-loop-holds : tie.Need-loop-init invariant-loop decreases-loop
+loop-holds : tie.Need-loop-j-init invariant-loop-j decreases-loop-j
 loop-holds c =
     let s = c.before.before in
     (search rules, search rules, sym (stored-none s.args.file.now (s.args.i * record_bytes) s.args.arcs.now (room s.args.file.now s.args.i s.requires.0) s.requires.1))
 
-loop-again : tie.Need-loop-preserved invariant-loop decreases-loop
+loop-again : tie.Need-loop-j-preserved invariant-loop-j decreases-loop-j
 loop-again c =
     let n = c.before.before.before in
     let a = n.before.before.before in
     let s = start a in
-    (search rules, ap length c.before.before.write32.ensures ∙ length-put 4 a.loop.file _ _ ∙ a.loop.invariant.1, cc (stored_more s.args.file.now (s.args.i * record_bytes) s.args.arcs.now (room s.args.file.now s.args.i s.pre.0) s.pre.1 a.loop.j (omega arith)))
+    (search rules, ap length c.before.before.write32.ensures ∙ length-put 4 a.loop-j.file _ _ ∙ a.loop-j.invariant.1, cc (stored_more s.args.file.now (s.args.i * record_bytes) s.args.arcs.now (room s.args.file.now s.args.i s.requires.0) s.requires.1 a.loop-j.j (omega arith)))
 
-returns : tie.Need-returns invariant-loop decreases-loop
+returns : tie.Need-returns invariant-loop-j decreases-loop-j
 returns c =
     let a = c.before in
     let s = start a in
-    cc (stored-all s.args.file.now (s.args.i * record_bytes) s.args.arcs.now (room s.args.file.now s.args.i s.pre.0) s.pre.1 a.loop.j (omega arith))
+    cc (stored-all s.args.file.now (s.args.i * record_bytes) s.args.arcs.now (room s.args.file.now s.args.i s.requires.0) s.requires.1 a.loop-j.j (omega arith))
 
 pub put_arcs_spec : {M : Type 1} → statement M
 put_arcs_spec =
     tie.close
     (tie.spec
-    invariant-loop
-    decreases-loop
+    invariant-loop-j
+    decreases-loop-j
     loop-holds
     (λ c. search rules)
     (λ c. search rules)

@@ -6,13 +6,13 @@ use Rattle.products.proofs.ProductLaws.{high_fits, low_fits}
 use Rattle.products.proofs.high.Statement.{statement}
 use Rattle.products.proofs.high.Tie as tie
 
-mul-result : tie.Need-overflow-mul-result
+mul-result : tie.Need-overflow_mul-result
 mul-result c = omega (arith, high_fits c.args.x c.args.w c.requires.0 c.requires.1)
 
-mul-result-2 : tie.Need-overflow-mul-result-2
+mul-result-2 : tie.Need-overflow_mul-result-2
 mul-result-2 c = omega (arith, low_fits c.args.x c.args.w c.requires.0)
 
-add-result : tie.Need-overflow-add-result
+add-result : tie.Need-overflow_add-result
 add-result c = omega (arith, high_fits c.args.x c.args.w c.requires.0 c.requires.1, low_fits c.args.x c.args.w c.requires.0)
 
 returns : tie.Need-returns

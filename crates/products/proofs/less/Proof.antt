@@ -6,17 +6,17 @@ use Rattle.products.proofs.ProductLaws.{less-high, more-high, same-high}
 use Rattle.products.proofs.less.Statement.{statement}
 use Rattle.products.proofs.less.Tie as tie
 
-returns : tie.Need-returns
+returns : tie.Need-returns-then-h-k
 returns c =
     let a = c.before.before.before.args in
     sym (less-high a.x a.w a.z a.y (omega arith))
 
-returns-2 : tie.Need-returns-2
+returns-2 : tie.Need-returns-then-k-h
 returns-2 c =
     let a = c.before.before.before.before.args in
     sym (more-high a.x a.w a.z a.y (omega arith))
 
-returns-3 : tie.Need-returns-3
+returns-3 : tie.Need-returns
 returns-3 c =
     let a = c.before.before.before.before.before.before.args in
     cc (same-high a.x a.w a.z a.y (omega arith))

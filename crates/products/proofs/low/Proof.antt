@@ -6,7 +6,7 @@ use Rattle.products.proofs.ProductLaws.{low_fits}
 use Rattle.products.proofs.low.Statement.{statement}
 use Rattle.products.proofs.low.Tie as tie
 
-mul-result : tie.Need-overflow-mul-result
+mul-result : tie.Need-overflow_mul-result
 mul-result c = omega (arith, low_fits c.args.x c.args.w c.requires.0)
 
 returns : tie.Need-returns

@@ -6,10 +6,10 @@ use Rattle.query.proofs.core_closed.Tie as tie
 
 returns : tie.Need-returns
 returns c =
-    let d = c.before.before.before.before.before.before.before.before in
-    let o = d.before.before.before.before.before.before in
-    let s = o.before.before.before.before.before in
-    cored-same s.args.table.now s.args.closed.now _ s.args.labels.now s.args.area.now _ _ _ c.got_of.result _ _ o.ask-of.ensures c.got_of.ensures d.decide.ensures
+    let d = c in
+    let o = d in
+    let s = o in
+    cored-same s.args.table.now s.args.closed.now _ s.args.labels.now s.args.area.now _ _ _ c.got_of.result _ _ o.ask_of-ask.ensures c.got_of.ensures d.decide-d.ensures
 
 pub core_closed_spec : {M : Type 1} → statement M
 core_closed_spec =

@@ -1,34 +1,34 @@
 -- Where something refuses, everything is left as it was; where nothing does, the rounds give all that is due.
-use mathlib.Core.Path.{◌≡◌, refl, sym, ap, ◌∙◌}
+use mathlib.Core.Path.{refl, sym, ap, ◌∙◌}
 use borrow.Author.Rules.{rules}
 use Rattle.query.specs.Query.{Input, asked}
 use Rattle.query.proofs.DecideLaws.{Reached, reached, wanted, cored-refused, cored-reached}
 use Rattle.query.proofs.decide.Statement.{statement}
 use Rattle.query.proofs.decide.Tie as tie
 
-abbrev start : tie.After-refused → tie.Start
-start c = c.before.before.before.before.before.before.before.before.before.before
+abbrev start : tie.After-refused-told → tie.Start
+start c = c.before.before.before.before.before.before.before.before
 
-abbrev input : tie.After-refused → Input
+abbrev input : tie.After-refused-told → Input
 input c = let s = start c in asked s.args.table.now s.args.closed.now s.args.ask s.args.wish s.args.labels.now s.args.area.now
 
-on : (e : tie.Else1) → Reached (input e.before.before)
-on e = let r = e.before.before in reached (input r) (sym (ap (λ x. x.outcome) r.refused.ensures) ∙ e.if1.false)
+on : (e : tie.Else-told-ne-FOUND) → Reached (input e.before.before)
+on e = let r = e.before.before in reached (input r) (sym (ap (λ x. x.outcome) r.refused-told.ensures) ∙ e.if-told-ne-FOUND.false)
 
-returns : tie.Need-returns
+returns : tie.Need-returns-then-told-ne-FOUND
 returns c =
     let r = c.before.before in
-    cored-refused (input r) _ r.refused.ensures refl (λ z. c.if1.true (ap (λ x. x.outcome) r.refused.ensures ∙ z))
+    cored-refused (input r) _ r.refused-told.ensures refl (λ z. c.if-told-ne-FOUND.true (ap (λ x. x.outcome) r.refused-told.ensures ∙ z))
 
 all-requires : tie.Need-all-requires
 all-requires c κs =
     let e = c.before.before.before.before.before.before in
     (wanted (input e.before.before) (on e), (on e).passed.k-least, (start e.before.before).requires)
 
-returns-2 : tie.Need-returns-2
+returns-2 : tie.Need-returns
 returns-2 c =
-    let a = c.before.before.before.before.before.before.before.before.before.before in
-    let e = a.before.before.before.before.before.before.before in
+    let a = c in
+    let e = a.before.before.before.before.before.before.before.before.before.before.before.before.before.before.before.before.before in
     cored-reached (input e.before.before) _ _ _ (on e) a.all.ensures
 
 pub decide_spec : {M : Type 1} → statement M

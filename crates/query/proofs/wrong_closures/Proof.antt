@@ -1,9 +1,7 @@
 -- Where no closures are lent none are wrong.
-use mathlib.Core.Path.{◌≡◌, ap}
-use mathlib.Core.Bool.{◌&&◌}
 use borrow.Author.Rules.{rules}
 use Rattle.query.proofs.wrong_closures.Statement.{statement}
 use Rattle.query.proofs.wrong_closures.Tie as tie
 
 pub wrong_closures_spec : {M : Type 1} → statement M
-wrong_closures_spec = tie.close (tie.spec (λ c κs. search rules) (λ c. rw c.before.if1.true c.wrong.ensures) (λ c. rw c.if1.false))
+wrong_closures_spec = tie.close (tie.spec (λ c κs. search rules) (λ c. rw c.if-closing.true c.wrong.ensures) (λ c. rw c.if-closing.false))

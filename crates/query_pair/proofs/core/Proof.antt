@@ -6,10 +6,10 @@ use Rattle.query_pair.proofs.core.Tie as tie
 
 returns : tie.Need-returns
 returns c =
-    let d = c.before.before.before.before in
-    let o = d.before.before.before in
-    let s = o.before.before.before.before.before in
-    cored-same s.args.table.now s.args.closed.now s.args.area.now s.args.lent s.args.work.now _ _ d.decide.result _ _ o.ask-of.ensures d.decide.ensures
+    let d = c in
+    let o = d in
+    let s = o in
+    cored-same s.args.table.now s.args.closed.now s.args.area.now s.args.lent s.args.work.now _ _ d.decide.result _ _ o.ask_of-ask.ensures d.decide.ensures
 
 pub core_spec : {M : Type 1} → statement M
 core_spec =

@@ -1,25 +1,25 @@
 -- Where something refuses, everything is left as it was; where nothing does, the searches give all that is due.
-use mathlib.Core.Path.{◌≡◌, sym, ap, ◌∙◌}
+use mathlib.Core.Path.{sym, ap, ◌∙◌}
 use borrow.Author.Rules.{rules}
 use Rattle.query_pair.specs.Pair.{Input, given}
 use Rattle.query_pair.proofs.DecideLaws.{Reached, reached, room_for, cored-refused, cored-reached}
 use Rattle.query_pair.proofs.decide.Statement.{statement}
 use Rattle.query_pair.proofs.decide.Tie as tie
 
-abbrev start : tie.After-refused → tie.Start
-start c = c.before.before.before.before.before.before.before
+abbrev start : tie.After-refused-told → tie.Start
+start c = c.before.before.before.before.before
 
-abbrev input : tie.After-refused → Input
+abbrev input : tie.After-refused-told → Input
 input c = let s = start c in given s.args.table.now s.args.ask s.args.closed.now s.args.area.now s.args.lent s.args.work.now
 
-on : (e : tie.Else1) → Reached (input e.before.before)
-on e = let r = e.before.before in reached (input r) (sym (ap (λ x. x.outcome) r.refused.ensures) ∙ e.if1.false)
+on : (e : tie.Else-told-ne-FOUND) → Reached (input e.before.before)
+on e = let r = e.before.before in reached (input r) (sym (ap (λ x. x.outcome) r.refused-told.ensures) ∙ e.if-told-ne-FOUND.false)
 
-returns : tie.Need-returns
+returns : tie.Need-returns-then-told-ne-FOUND
 returns c =
-    let t = c.before in
-    let r = t.before.before in
-    cored-refused (input r) _ (c.refuse.ensures.0 ∙ r.refused.ensures) c.refuse.ensures.1 (λ z. t.if1.true (ap (λ x. x.outcome) r.refused.ensures ∙ z))
+    let t = c in
+    let r = t.before.before.before in
+    cored-refused (input r) _ (c.refuse.ensures.0 ∙ r.refused-told.ensures) c.refuse.ensures.1 (λ z. t.if-told-ne-FOUND.true (ap (λ x. x.outcome) r.refused-told.ensures ∙ z))
 
 all-requires : tie.Need-all-requires
 all-requires c κs =
@@ -27,10 +27,10 @@ all-requires c κs =
     let r = on e in
     (r.passed.ask, r.large.words, room_for (input e.before.before) r)
 
-returns-2 : tie.Need-returns-2
+returns-2 : tie.Need-returns
 returns-2 c =
-    let a = c.before.before.before.before in
-    let e = a.before.before.before in
+    let a = c in
+    let e = a.before.before.before.before.before.before.before in
     cored-reached (input e.before.before) _ _ _ (on e) a.all.ensures
 
 pub decide_spec : {M : Type 1} → statement M

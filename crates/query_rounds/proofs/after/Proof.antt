@@ -12,13 +12,10 @@ use Rattle.query_rounds.proofs.after.Tie as tie
 abbrev adds : tie.Start → Ended → Added
 adds s e = after_of e s.args.r s.args.k s.args.room
 
-returns : tie.Need-returns
+returns : tie.Need-returns-in-Answer
 returns c =
-    let e = c.before.before in
-    let s = e.before.before in
-    let g = e.e.given in
-    ap {B = Added} (λ i. record { r = s.args.r + 1; stage = i; row = record { length = g.0.0; arcs = g.0.1.0; labels = g.0.1.1.0 } }) c.stage-after.ensures
-    ∙ sym (ap (adds s) g.1)
+    ap {B = Added} (λ i. record { r = c.args.r + 1; stage = i; row = record { length = c.in-Answer.l; arcs = c.in-Answer.m; labels = c.in-Answer.n } }) c.stage_after.ensures
+    ∙ sym (ap (adds c.before.before) c.in-Answer.is)
 
 pub after_spec : {M : Type 1} → statement M
 after_spec =
@@ -34,5 +31,5 @@ after_spec =
     (λ c. search rules)
     (λ c. search rules)
     returns
-    (λ c. sym (ap (adds c.before.before.before) c.before.e2.given.1))
-    (λ c. sym (ap (adds c.before.before) c.enum_told.given.1)))
+    (λ c. sym (ap (adds c.before) c.in-NoAnswer.is))
+    (λ c. sym (ap (adds c.before) c.in-Refused.is)))

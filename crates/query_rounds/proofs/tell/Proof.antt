@@ -5,17 +5,17 @@ use Rattle.query_rounds.proofs.FinishLaws.{outcome-refused}
 use Rattle.query_rounds.proofs.tell.Statement.{statement}
 use Rattle.query_rounds.proofs.tell.Tie as tie
 
-returns-3 : tie.Need-returns-3
-returns-3 c = let s = c.before.before in sym (outcome-refused s.args.stage s.args.r s.requires.1 c.before.if1.false c.if2.false)
+returns-3 : tie.Need-returns
+returns-3 c = let s = c in sym (outcome-refused s.args.stage s.args.r s.requires.1 c.if-stage-eq-FOUND.false c.if-stage-eq-FEWER.false)
 
 pub tell_spec : {M : Type 1} → statement M
 tell_spec =
     tie.close
     (tie.spec
     (λ c κs. search rules)
-    (λ c. rw c.before.if1.true c.plain.ensures)
+    (λ c. rw c.if-stage-eq-FOUND.true c.plain.ensures)
     (λ c κs. search rules)
-    (λ c. rw c.before.if2.true c.plain2.ensures)
+    (λ c. rw c.if-stage-eq-FEWER.true c.plain-then-stage-eq-FEWER.ensures)
     (λ c. search rules)
     (λ c. search rules)
     returns-3)

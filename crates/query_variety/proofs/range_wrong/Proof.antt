@@ -1,6 +1,5 @@
 -- The three tests are those of `range_wrong`, in its order.
 use native.Mathlib.Omega.{arith}
-use borrow.Author.Rules.{rules}
 use borrow.Author.Tests.{lt-leb, le-leb}
 use Rattle.variety.specs.Variety.{range_wrong}
 use Rattle.query_variety.proofs.range_wrong.Statement.{statement}

@@ -1,6 +1,6 @@
 -- Each refusal is the next decision where those before it let the call pass. The table is good then, so that the numbers that judge the
 -- buffers do not wrap.
-use mathlib.Core.Path.{◌≡◌, refl, sym, ap, ◌∙◌}
+use mathlib.Core.Path.{◌≡◌, sym, ap, ◌∙◌}
 use mathlib.Core.Bool.{Bool, true, false, cond}
 use mathlib.Core.List.{[]}
 use borrow.Author.Rules.{rules}
@@ -16,53 +16,53 @@ use Rattle.query_variety.proofs.DecideLaws.{plainly, refusal_is, refused-table, 
 use Rattle.query_variety.proofs.refused.Statement.{statement}
 use Rattle.query_variety.proofs.refused.Tie as tie
 
-abbrev start : tie.After-check → tie.Start
+abbrev start : tie.After-check-told → tie.Start
 start c = c.before.before.before.before.before
 
-abbrev input : tie.After-check → Input
+abbrev input : tie.After-check-told → Input
 input c = let s = start c in given s.args.table.now s.args.ask s.args.wish s.args.closed.now [] s.args.area.now s.args.work.now
 
 -- the table is good
-abbrev checked : tie.Else1 → tie.After-check
+abbrev checked : tie.Else-told-ne-FOUND → tie.After-check-told
 checked e = e.before.before
 
-no-fault : (e : tie.Else1) → table_fault (start (checked e)).args.ask.nodes (start (checked e)).args.table.now ≡ good
-no-fault e = told-good _ _ (sym (ap (λ x. x.outcome) (checked e).check.ensures) ∙ e.if1.false)
+no-fault : (e : tie.Else-told-ne-FOUND) → table_fault (start (checked e)).args.ask.nodes (start (checked e)).args.table.now ≡ good
+no-fault e = told-good _ _ (sym (ap (λ x. x.outcome) (checked e).check-told.ensures) ∙ e.if-told-ne-FOUND.false)
 
 -- and so are the closures
-abbrev opened : tie.Else2 → tie.Else1
+abbrev opened : tie.Else-wrong → tie.Else-told-ne-FOUND
 opened e = e.before.before
 
-bytes : (e : tie.Else2) → let i = input (checked (opened e)) in wrong i.table i.closed ≡ false
-bytes e = sym e.before.wrong.ensures ∙ e.if2.false
+bytes : (e : tie.Else-wrong) → let i = input (checked (opened e)) in wrong i.table i.closed ≡ false
+bytes e = sym e.wrong.ensures ∙ e.if-wrong.false
 
 -- and neither 7 nor 8 is given
-abbrev numbered : tie.Else3 → tie.Else2
+abbrev numbered : tie.Else-f-ne0 → tie.Else-wrong
 numbered e = e.before.before
 
-none : (e : tie.Else3) → let i = input (checked (opened (numbered e))) in refusal (query_of i) i.wish.k ≡ 0
-none e = let i = input (checked (opened (numbered e))) in refusal_is i i.wish.k ∙ sym e.before.refusal.ensures ∙ e.if3.false
+none : (e : tie.Else-f-ne0) → let i = input (checked (opened (numbered e))) in refusal (query_of i) i.wish.k ≡ 0
+none e = let i = input (checked (opened (numbered e))) in refusal_is i i.wish.k ∙ sym e.refusal-f.ensures ∙ e.if-f-ne0.false
 
-returns : tie.Need-returns
+returns : tie.Need-returns-then-told-ne-FOUND
 returns c =
     let k = c.before.before in
-    k.check.ensures ∙ sym (refused-table (input k) (λ z. c.if1.true (ap (λ x. x.outcome) k.check.ensures ∙ z)))
+    k.check-told.ensures ∙ sym (refused-table (input k) (λ z. c.if-told-ne-FOUND.true (ap (λ x. x.outcome) k.check-told.ensures ∙ z)))
 
-returns-2 : tie.Need-returns-2
+returns-2 : tie.Need-returns-then-wrong
 returns-2 c =
-    let w = c.before.before in
-    let e = w.before in
-    c.plain.ensures ∙ sym (refused-closures (input (checked e)) (no-fault e) (sym w.wrong.ensures ∙ c.before.if2.true))
+    let w = c in
+    let e = w.before.before.before in
+    c.plain.ensures ∙ sym (refused-closures (input (checked e)) (no-fault e) (sym w.wrong.ensures ∙ c.if-wrong.true))
 
-returns-3 : tie.Need-returns-3
+returns-3 : tie.Need-returns-then-f-ne0
 returns-3 c =
-    let t = c.before in
-    let r = t.before in
-    let o = r.before in
+    let t = c in
+    let r = t in
+    let o = r.before.before.before in
     let i = input (checked (opened o)) in
-    c.plain2.ensures ∙ sym (refused-number i (no-fault (opened o)) (bytes o) _ (refusal_is i i.wish.k ∙ sym r.refusal.ensures) (ne_eqb _ 0 t.if3.true))
+    c.plain-then-f-ne0.ensures ∙ sym (refused-number i (no-fault (opened o)) (bytes o) _ (refusal_is i i.wish.k ∙ sym r.refusal-f.ensures) (ne_eqb _ 0 t.if-f-ne0.true))
 
-too-small-requires : tie.Need-too-small-requires
+too-small-requires : tie.Need-too_small-requires
 too-small-requires c κs =
     let i = input (checked (opened (numbered c))) in
     let ok = no-fault (opened (numbered c)) in
@@ -70,36 +70,36 @@ too-small-requires c κs =
     (size.0, size.1, (passed (plainly i) ok (none c)).k-most)
 
 -- whether a buffer is too small
-small : (c : tie.After-too-small) → too_small (input (checked (opened (numbered c.before)))) ≡ c.too_small.result
+small : (c : tie.After-too_small) → too_small (input (checked (opened (numbered c.before)))) ≡ c.too_small.result
 unfolding too_small
 small c = sym c.too_small.ensures
 
-returns-4 : tie.Need-returns-4
+returns-4 : tie.Need-returns-then-too_small
 returns-4 c =
     let s = c.before.before in
     let o = numbered s.before in
     let e = opened o in
-    c.plain3.ensures ∙ sym (refused-room (input (checked e)) (no-fault e) (bytes o) (none s.before) (small s ∙ c.before.if4.true))
+    c.plain-then-too_small.ensures ∙ sym (refused-room (input (checked e)) (no-fault e) (bytes o) (none s.before) (small s ∙ c.if-too_small.true))
 
 -- the range decides
-abbrev fitted : tie.After-range-wrong → tie.After-too-small
+abbrev fitted : tie.After-range_wrong → tie.After-too_small
 fitted c = c.before.before
 
-ranged : (c : tie.After-range-wrong) (b : Bool) → c.range-wrong.result ≡ b → refused_of (input (checked (opened (numbered (fitted c).before)))) ≡ cond b (plain range_out) good
+ranged : (c : tie.After-range_wrong) (b : Bool) → c.range_wrong.result ≡ b → refused_of (input (checked (opened (numbered (fitted c).before)))) ≡ cond b (plain range_out) good
 ranged c b t =
     let s = fitted c in
     let o = numbered s.before in
     let e = opened o in
-    refused-range (input (checked e)) (no-fault e) (bytes o) (none s.before) (small s ∙ c.before.if4.false) b (sym c.range-wrong.ensures ∙ t)
+    refused-range (input (checked e)) (no-fault e) (bytes o) (none s.before) (small s ∙ c.if-too_small.false) b (sym c.range_wrong.ensures ∙ t)
 
-returns-5 : tie.Need-returns-5
-returns-5 c = c.plain4.ensures ∙ sym (ranged c.before.before true c.before.if5.true)
+returns-5 : tie.Need-returns-then-range_wrong
+returns-5 c = c.plain-then-range_wrong.ensures ∙ sym (ranged c.before.before true c.if-range_wrong.true)
 
-returns-6 : tie.Need-returns-6
+returns-6 : tie.Need-returns
 returns-6 c =
     let r = c.before in
     let e = opened (numbered (fitted r).before) in
-    (checked e).check.ensures ∙ no-fault e ∙ sym (ranged r false c.if5.false)
+    (checked e).check-told.ensures ∙ no-fault e ∙ sym (ranged r false c.if-range_wrong.false)
 
 pub refused_spec : {M : Type 1} → statement M
 refused_spec =

@@ -1,5 +1,5 @@
 -- The two tests are those of `too_small`, in its order. The slots of a few routes have few words, so their number does not wrap.
-use Prim.Native.Nat.{◌-◌, ◌*◌, ◌≤◌}
+use Prim.Native.Nat.{◌-◌, ◌≤◌}
 use native.Mathlib.Omega.{arith}
 use native.Mathlib.Nat.{mul-le-mul}
 use borrow.Author.Rules.{rules}
@@ -10,9 +10,9 @@ use Rattle.query_variety.proofs.too_small.Tie as tie
 
 ruleset tests = (lt-ltb, le-ltb, arith)
 
-mul-if1 : tie.Need-overflow-mul-if1
+mul-if1 : tie.Need-overflow_mul-wish
 mul-if1 c =
-    let s = c.before.before in
+    let s = c in
     let few : s.args.wish.k ≤ 12 = s.requires.2 in
     let wide : s.args.ask.nodes - 1 ≤ 65536 = omega (arith, s.requires.1) in
     omega (arith, mul-le-mul few wide)

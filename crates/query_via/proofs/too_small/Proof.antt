@@ -9,8 +9,8 @@ use Rattle.query_via.proofs.too_small.Tie as tie
 
 ruleset tests = (lt-ltb, le-ltb, arith)
 
-mul_words : tie.Need-overflow-mul-if1
-mul_words c = let s = c.before.before in omega (arith, few_words s.args.wish.k s.args.ask.nodes s.requires.2 s.requires.1)
+mul_words : tie.Need-overflow_mul-wanted
+mul_words c = let s = c in omega (arith, few_words s.args.wish.k s.args.ask.nodes s.requires.2 s.requires.1)
 
 pub too_small_spec : {M : Type 1} → statement M
 unfolding too_small

@@ -25,12 +25,12 @@ greatest s = best s.requires (route_at s.args.ask s.args.area.now s.args.i) s.ar
 quotient-requires : tie.Need-quotient-requires
 quotient-requires c κs =
     let s = start c in
-    small_is c.greatest.result (greatest s) c.greatest.ensures (greatest-small s.pre s.args.i s.args.i (omega arith) (omega arith))
+    small_is c.greatest.result (greatest s) c.greatest.ensures (greatest-small s.requires s.args.i s.args.i (omega arith) (omega arith))
 
 quotient-requires-2 : tie.Need-quotient-requires-2
 quotient-requires-2 c κs =
     let s = start c.before in
-    let r = s.pre in
+    let r = s.requires in
     (omega (arith, r.most s.args.i (omega arith)), r.positive 0 (omega arith), omega (arith, r.most 0 (omega arith)))
 
 abbrev fraction : ℕ → ℕ → Fraction
@@ -47,9 +47,9 @@ returns c =
     let s = start c.before.before in
     let arcs = arcs_of s.args.table.now in
     ap₂ figures
-    (figure c.before.quotient.result c.before.before.greatest.result (greatest s) c.before.quotient.ensures c.before.before.greatest.ensures)
-    (figure c.quotient2.result _ _ c.quotient2.ensures
-    (ap₂ fraction (s.pre.lengths s.args.i (omega arith)) (s.pre.lengths 0 (omega arith) ∙ ap (length_of arcs) (sym (first-route s.args.ask s.args.area.now s.args.i)))))
+    (figure c.quotient.result c.greatest.result (greatest s) c.quotient.ensures c.greatest.ensures)
+    (figure c.quotient-2.result _ _ c.quotient-2.ensures
+    (ap₂ fraction (s.requires.lengths s.args.i (omega arith)) (s.requires.lengths 0 (omega arith) ∙ ap (length_of arcs) (sym (first-route s.args.ask s.args.area.now s.args.i)))))
 
 pub of_spec : {M : Type 1} → statement M
 of_spec =

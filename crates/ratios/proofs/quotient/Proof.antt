@@ -3,15 +3,15 @@ use Rattle.ratios.proofs.QuotientLaws.{cast_fits, divides}
 use Rattle.ratios.proofs.quotient.Statement.{statement}
 use Rattle.ratios.proofs.quotient.Tie as tie
 
-int-to-float-result : tie.Need-int-to-float-result
-int-to-float-result c = cast_fits c.before.args.f.over c.before.requires.0
+int-to-float-result : tie.Need-int_to_float-result
+int-to-float-result c = cast_fits c.args.f.over c.requires.0
 
-int-to-float-result-2 : tie.Need-int-to-float-result-2
-int-to-float-result-2 c = cast_fits c.before.before.args.f.under c.before.before.requires.2
+int-to-float-result-2 : tie.Need-int_to_float-result-2
+int-to-float-result-2 c = cast_fits c.args.f.under c.requires.2
 
 returns : tie.Need-returns
 returns c =
-    let start = c.before.before in
+    let start = c in
     divides start.args.f.over start.args.f.under start.requires.0 start.requires.1 start.requires.2
 
 pub quotient_spec : {M : Type 1} → statement M

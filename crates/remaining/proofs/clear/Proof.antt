@@ -9,38 +9,38 @@ use Rattle.remaining.proofs.StandingLaws.{clear_none, clear-more}
 use Rattle.remaining.proofs.clear.Statement.{statement}
 use Rattle.remaining.proofs.clear.Tie as tie
 
-abbrev invariant-loop : tie.invariant-loop
-invariant-loop room₀ n v₀ room v = (v ≤ n) × (length room ≡ length room₀) × Cleared v room₀ room
+abbrev invariant-loop-v : tie.invariant-loop-v
+invariant-loop-v room₀ n v₀ room v = (v ≤ n) × (length room ≡ length room₀) × Cleared v room₀ room
 
-abbrev decreases-loop : tie.decreases-loop
-decreases-loop room₀ n v₀ room v = n - v
+abbrev decreases-loop-v : tie.decreases-loop-v
+decreases-loop-v room₀ n v₀ room v = n - v
 
-loop-holds : tie.Need-loop-init invariant-loop decreases-loop
+loop-holds : tie.Need-loop-v-init invariant-loop-v decreases-loop-v
 loop-holds c = (omega arith, refl, clear_none _)
 
-abbrev begun : tie.At-loop invariant-loop decreases-loop → tie.Start invariant-loop decreases-loop
+abbrev begun : tie.At-loop-v invariant-loop-v decreases-loop-v → tie.Start invariant-loop-v decreases-loop-v
 begun a = a.before.before
 
-put-long-requires : tie.Need-put-long-requires invariant-loop decreases-loop
-put-long-requires c κs = (omega (arith, c.before.before.loop.invariant.1), omega arith)
+put-long-requires : tie.Need-put_long-requires invariant-loop-v decreases-loop-v
+put-long-requires c κs = (omega (arith, c.loop-v.invariant.1), omega arith)
 
-loop-again : tie.Need-loop-preserved invariant-loop decreases-loop
+loop-again : tie.Need-loop-v-preserved invariant-loop-v decreases-loop-v
 loop-again c =
-    let p = c.before.before in
-    let i = p.before.before in
-    let a = i.before in
+    let p = c in
+    let i = p in
+    let a = i.before.before.before.before.before in
     let s = begun a in
-    (omega (arith, i.loop-test.true), search rules, clear-more s.args.n a.loop.v s.args.room.now a.loop.room s.pre i.loop-test.true a.loop.invariant.2 _ p.put-long.ensures)
+    (omega (arith, i.loop-v-test.true), search rules, clear-more s.args.n a.loop-v.v s.args.room.now a.loop-v.room s.requires i.loop-v-test.true a.loop-v.invariant.2 _ p.put_long.ensures)
 
-returns : tie.Need-returns invariant-loop decreases-loop
-returns c = let a = c.before in let e : a.loop.v ≡ (begun a).args.n = omega arith in rw e at a.loop.invariant.2
+returns : tie.Need-returns invariant-loop-v decreases-loop-v
+returns c = let a = c.before in let e : a.loop-v.v ≡ (begun a).args.n = omega arith in rw e at a.loop-v.invariant.2
 
 pub clear_spec : {M : Type 1} → statement M
 clear_spec =
     tie.close
     (tie.spec
-    invariant-loop
-    decreases-loop
+    invariant-loop-v
+    decreases-loop-v
     loop-holds
     put-long-requires
     (λ c. search rules)

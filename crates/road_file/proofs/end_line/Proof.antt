@@ -8,42 +8,41 @@ use Rattle.road_file.proofs.end_line.Statement.{statement}
 use Rattle.road_file.proofs.end_line.Tie as tie
 
 -- the line that the scan reads
-abbrev start : tie.After-ended → tie.Start
+abbrev start : tie.After-ended-line → tie.Start
 start c = c.before.before
 
-returns : tie.Need-returns
+returns : tie.Need-returns-in-Comment
 unfolding said_by
 returns c =
     let t = c.before in
-    let a = t.before.before in
-    c.pass.ensures ∙ ap (said_by (start a).args.r) (sym (sym a.ended.ensures ∙ ap line_is t.enum_told.given.1))
+    let a = t.before in
+    c.pass.ensures ∙ ap (said_by (start a).args.r) (sym (sym a.ended-line.ensures ∙ ap line_is t.in-Comment.is))
 
-returns-2 : tie.Need-returns-2
+returns-2 : tie.Need-returns-in-Sizes
 unfolding said_by
 returns-2 c =
-    let l = c.before.before in
-    let a = l.before.before in
-    c.size.ensures ∙ ap (said_by (start a).args.r) (sym (sym a.ended.ensures ∙ ap line_is l.line.given.1))
+    let l = c.before in
+    let a = l.before in
+    c.size.ensures ∙ ap (said_by (start a).args.r) (sym (sym a.ended-line.ensures ∙ ap line_is l.in-Sizes.is))
 
-returns-3 : tie.Need-returns-3
+returns-3 : tie.Need-returns-in-Arc
 unfolding said_by
 returns-3 c =
-    let l = c.before.before in
-    let a = l.before.before in
-    c.extend.ensures ∙ ap (said_by (start a).args.r) (sym (sym a.ended.ensures ∙ ap line_is l.line2.given.1))
+    let l = c.before in
+    let a = l.before in
+    c.extend.ensures ∙ ap (said_by (start a).args.r) (sym (sym a.ended-line.ensures ∙ ap line_is l.in-Arc.is))
 
-returns-4 : tie.Need-returns-4
+returns-4 : tie.Need-returns-in-Other
 unfolding said_by
 returns-4 c =
     let t = c.before in
-    let a = t.before.before in
-    c.refuse.ensures ∙ ap (said_by (start a).args.r) (sym (sym a.ended.ensures ∙ ap line_is t.enum-told2.given.1))
+    let a = t.before in
+    c.refuse.ensures ∙ ap (said_by (start a).args.r) (sym (sym a.ended-line.ensures ∙ ap line_is t.in-Other.is))
 
 extend-requires : tie.Need-extend-requires
 extend-requires c κs =
-    let l = c.before in
-    let a = l.before.before in
-    read-nodes (start a).args.r.scan _ _ _ (sym a.ended.ensures ∙ ap line_is l.line2.given.1)
+    let a = c.before in
+    read-nodes (start a).args.r.scan _ _ _ (sym a.ended-line.ensures ∙ ap line_is c.in-Arc.is)
 
 pub end_line_spec : {M : Type 1} → statement M
 end_line_spec =

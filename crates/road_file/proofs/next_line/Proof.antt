@@ -1,5 +1,4 @@
 -- The two sides of the test.
-use native.Mathlib.Omega.{arith}
 use borrow.Author.Rules.{rules}
 use borrow.Author.Tests.{lt-ltb, le-ltb}
 use Rattle.numerals.specs.Decimal.{most_number}
@@ -13,5 +12,5 @@ next_line_spec =
     tie.close
     (tie.spec
     (λ c. search rules)
-    (λ c. rw (lt-ltb c.before.args.lines most_number c.if1.true))
-    (λ c. rw (le-ltb c.before.args.lines most_number c.if1.false)))
+    (λ c. rw (lt-ltb c.before.args.lines most_number c.if-lines-lt-MOST.true))
+    (λ c. rw (le-ltb c.before.args.lines most_number c.if-lines-lt-MOST.false)))

@@ -8,7 +8,7 @@ use Rattle.road_file.proofs.pass.Tie as tie
 returns : tie.Need-returns
 returns c =
     let r = c.before.before.args.r in
-    ap₂ {C = Reader} (λ s n. record { scan = s; lines = n; begun = r.begun; nodes = r.nodes; wanted = r.wanted; count = r.count; from = r.from; to = r.to; len = r.len; wrong = r.wrong }) c.before.start.ensures c.next-line.ensures
+    ap₂ {C = Reader} (λ s n. record { scan = s; lines = n; begun = r.begun; nodes = r.nodes; wanted = r.wanted; count = r.count; from = r.from; to = r.to; len = r.len; wrong = r.wrong }) c.before.start.ensures c.next_line.ensures
 
 pub pass_spec : {M : Type 1} → statement M
 pass_spec = tie.close (tie.spec (λ c κs. search rules) (λ c κs. search rules) returns)

@@ -9,34 +9,34 @@ use Rattle.road_judge.specs.Judged.{fault_by, pick_of, last_by}
 use Rattle.road_judge.proofs.judge.Statement.{statement}
 use Rattle.road_judge.proofs.judge.Tie as tie
 
-returns : tie.Need-returns
+returns : tie.Need-returns-then-fault-eq0
 unfolding fault_by
 returns c =
-    let a = c.before.before.args in
-    sym (better-same (fault_by a.r.nodes) a.i (pick_of a.j) (last_by a.r) (inl (sym c.before.fault-of.ensures ∙ c.if1.true)))
+    let a = c.args in
+    sym (better-same (fault_by a.r.nodes) a.i (pick_of a.j) (last_by a.r) (inl (sym c.fault_of-fault.ensures ∙ c.if-fault-eq0.true)))
 
-returns-2 : tie.Need-returns-2
+returns-2 : tie.Need-returns-then-j-r
 unfolding fault_by
 returns-2 c =
-    let f = c.before.before.before.before.before.before in
-    let a = f.before.args in
-    sym (better-same (fault_by a.r.nodes) a.i (pick_of a.j) (last_by a.r) (inr (c.before.before.before.if2.true, c.if3.true)))
+    let f = c in
+    let a = f.args in
+    sym (better-same (fault_by a.r.nodes) a.i (pick_of a.j) (last_by a.r) (inr (c.if-j-ne0.true, c.if-j-r.true)))
 
-returns-3 : tie.Need-returns-3
+returns-3 : tie.Need-returns-else-j-r
 unfolding fault_by
 returns-3 c =
-    let f = c.before.before.before.before.before.before in
-    let a = f.before.args in
-    ap {B = Pick} (λ n. record { fault = n; start = a.r.from; at = a.i }) f.fault-of.ensures
-    ∙ sym (better-new (fault_by a.r.nodes) a.i (pick_of a.j) (last_by a.r) ((λ e. c.before.before.before.before.before.if1.false (f.fault-of.ensures ∙ e)), inr (omega arith)))
+    let f = c in
+    let a = f.args in
+    ap {B = Pick} (λ n. record { fault = n; start = a.r.from; at = a.i }) f.fault_of-fault.ensures
+    ∙ sym (better-new (fault_by a.r.nodes) a.i (pick_of a.j) (last_by a.r) ((λ e. c.if-fault-eq0.false (f.fault_of-fault.ensures ∙ e)), inr (omega arith)))
 
-returns-4 : tie.Need-returns-4
+returns-4 : tie.Need-returns-else-j-ne0
 unfolding fault_by
 returns-4 c =
-    let f = c.before.before.before in
-    let a = f.before.args in
-    ap {B = Pick} (λ n. record { fault = n; start = a.r.from; at = a.i }) f.fault-of.ensures
-    ∙ sym (better-new (fault_by a.r.nodes) a.i (pick_of a.j) (last_by a.r) ((λ e. c.before.before.if1.false (f.fault-of.ensures ∙ e)), inl c.if2.false))
+    let f = c in
+    let a = f.args in
+    ap {B = Pick} (λ n. record { fault = n; start = a.r.from; at = a.i }) f.fault_of-fault.ensures
+    ∙ sym (better-new (fault_by a.r.nodes) a.i (pick_of a.j) (last_by a.r) ((λ e. c.if-fault-eq0.false (f.fault_of-fault.ensures ∙ e)), inl c.if-j-ne0.false))
 
 pub judge_spec : {M : Type 1} → statement M
 judge_spec = tie.close (tie.spec (λ c κs. search rules) returns returns-2 returns-3 returns-4)

@@ -8,22 +8,22 @@ use Rattle.road_line.proofs.StartLaws.{in_start}
 use Rattle.road_line.proofs.compare.Statement.{statement}
 use Rattle.road_line.proofs.compare.Tie as tie
 
-returns : tie.Need-returns
+returns : tie.Need-returns-then-expected-byte
 unfolding compared
 returns c =
     let e = c.before.before in
-    simp (ne_eqb _ _ (λ z. c.before.if1.true (e.expected.ensures ∙ z))) c.spoil.ensures
+    simp (ne_eqb _ _ (λ z. c.before.if-expected-byte.true (e.expected.ensures ∙ z))) c.spoil.ensures
 
-add-state : tie.Need-overflow-add-state
+add-state : tie.Need-overflow_add-x
 add-state c =
     let s = c.before.before.before in
     omega (arith, in_start s.args.x.kind s.args.x.at s.requires)
 
-returns-2 : tie.Need-returns-2
+returns-2 : tie.Need-returns
 unfolding compared
 returns-2 c =
     let e = c.before.before in
-    simp (eq-eqb _ _ (sym e.before.expected.ensures ∙ e.if1.false)) c.state.ensures
+    simp (eq-eqb _ _ (sym e.before.expected.ensures ∙ e.if-expected-byte.false)) c.state.ensures
 
 pub compare_spec : {M : Type 1} → statement M
 compare_spec =

@@ -5,35 +5,32 @@ use Rattle.road_line.specs.Scan.{start_of, expected_at}
 use Rattle.road_line.proofs.expected.Statement.{statement}
 use Rattle.road_line.proofs.expected.Tie as tie
 
-returns : tie.Need-returns
+returns : tie.Need-returns-then-kind-eq-SIZES
 unfolding expected_at start_of
-returns c = simp (eq-eqb _ _ c.before.before.if1.true) c.byte_of.ensures
+returns c = simp (eq-eqb _ _ c.before.before.if-kind-eq-SIZES.true) c.byte_of.ensures
 
-returns-2 : tie.Need-returns-2
+returns-2 : tie.Need-returns-then-kind-eq-ARC
 unfolding expected_at start_of
-returns-2 c = simp (ne_eqb _ _ c.before.before.before.if1.false, eq-eqb _ _ c.before.before.if2.true) c.byte-of2.ensures
+returns-2 c = simp (ne_eqb _ _ c.before.before.before.if-kind-eq-SIZES.false, eq-eqb _ _ c.before.before.if-kind-eq-ARC.true) c.byte_of-then-kind-eq-ARC.ensures
 
-returns-3 : tie.Need-returns-3
+returns-3 : tie.Need-returns-then-kind-eq-COMMENT
 unfolding expected_at start_of
 returns-3 c =
     let e = c.before.before.before in
-    simp (ne_eqb _ _ e.before.if1.false, ne_eqb _ _ e.if2.false, eq-eqb _ _ c.before.before.if3.true) c.byte-of3.ensures
+    simp (ne_eqb _ _ e.before.if-kind-eq-SIZES.false, ne_eqb _ _ e.if-kind-eq-ARC.false, eq-eqb _ _ c.before.before.if-kind-eq-COMMENT.true) c.byte_of-then-kind-eq-COMMENT.ensures
 
-returns-4 : tie.Need-returns-4
+returns-4 : tie.Need-returns
 unfolding expected_at start_of
-returns-4 c = simp (ne_eqb _ _ c.before.before.if1.false, ne_eqb _ _ c.before.if2.false, ne_eqb _ _ c.if3.false)
+returns-4 c = simp (ne_eqb _ _ c.before.before.if-kind-eq-SIZES.false, ne_eqb _ _ c.before.if-kind-eq-ARC.false, ne_eqb _ _ c.if-kind-eq-COMMENT.false)
 
 pub expected_spec : {M : Type 1} → statement M
 expected_spec =
     tie.close
     (tie.spec
-    (λ c. search rules)
     (λ c κs. search rules)
     returns
-    (λ c. search rules)
     (λ c κs. search rules)
     returns-2
-    (λ c. search rules)
     (λ c κs. search rules)
     returns-3
     returns-4)

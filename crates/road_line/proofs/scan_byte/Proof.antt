@@ -9,36 +9,36 @@ use Rattle.road_line.specs.Scan.{expected_at, scan_byte}
 use Rattle.road_line.proofs.scan_byte.Statement.{statement}
 use Rattle.road_line.proofs.scan_byte.Tie as tie
 
-known : (c : tie.Else1) → eqb c.before.before.args.x.kind 0 ≡ false
-known c = ne_eqb _ _ c.if1.false
+known : (c : tie.Else-x-eq-UNKNOWN) → eqb c.before.before.args.x.kind 0 ≡ false
+known c = ne_eqb _ _ c.if-x-eq-UNKNOWN.false
 
-past : (c : tie.Else2) → ltb (expected_at c.before.before.before.before.args.x.kind c.before.before.before.before.args.x.at) 256 ≡ false
+past : (c : tie.Else-expected-lt-NO_BYTE) → ltb (expected_at c.before.before.before.before.args.x.kind c.before.before.before.before.args.x.at) 256 ≡ false
 past c =
     let x = c.before.before.before.before.args.x in
-    le-ltb (expected_at x.kind x.at) 256 (omega (arith, c.before.expected.ensures, c.if2.false))
+    le-ltb (expected_at x.kind x.at) 256 (omega (arith, c.before.expected.ensures, c.if-expected-lt-NO_BYTE.false))
 
-returns : tie.Need-returns
+returns : tie.Need-returns-then-x-eq-UNKNOWN
 unfolding scan_byte
-returns c = simp (eq-eqb _ _ c.before.if1.true) c.begin.ensures
+returns c = simp (eq-eqb _ _ c.before.if-x-eq-UNKNOWN.true) c.begin.ensures
 
-returns-2 : tie.Need-returns-2
+returns-2 : tie.Need-returns-then-expected-lt-NO_BYTE
 unfolding scan_byte
 returns-2 c =
     let e = c.before.before in
     let x = e.before.before.before.args.x in
-    simp (ne_eqb _ _ e.before.if1.false, lt-ltb (expected_at x.kind x.at) 256 (omega (arith, e.expected.ensures, c.before.if2.true))) c.compare.ensures
+    simp (ne_eqb _ _ e.before.if-x-eq-UNKNOWN.false, lt-ltb (expected_at x.kind x.at) 256 (omega (arith, e.expected.ensures, c.before.if-expected-lt-NO_BYTE.true))) c.compare.ensures
 
-returns-3 : tie.Need-returns-3
+returns-3 : tie.Need-returns-then-x-gt-ARC
 unfolding scan_byte
 returns-3 c =
     let e = c.before.before in
-    simp (known e.before.before, past e, lt-ltb 2 _ c.if3.true)
+    simp (known e.before.before, past e, lt-ltb 2 _ c.if-x-gt-ARC.true)
 
-returns-4 : tie.Need-returns-4
+returns-4 : tie.Need-returns
 unfolding scan_byte
 returns-4 c =
     let e = c.before.before.before in
-    simp (known e.before.before, past e, le-ltb 2 _ c.before.if3.false) c.number-byte.ensures
+    simp (known e.before.before, past e, le-ltb 2 _ c.before.if-x-gt-ARC.false) c.number_byte.ensures
 
 pub scan_byte_spec : {M : Type 1} → statement M
 scan_byte_spec =

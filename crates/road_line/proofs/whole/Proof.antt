@@ -5,21 +5,21 @@ use Rattle.road_line.specs.Scan.{whole_of}
 use Rattle.road_line.proofs.whole.Statement.{statement}
 use Rattle.road_line.proofs.whole.Tie as tie
 
-returns : tie.Need-returns
+returns : tie.Need-returns-then-x-eq-SIZES
 unfolding whole_of
-returns c = simp (eq-eqb _ _ c.if1.true)
+returns c = simp (eq-eqb _ _ c.if-x-eq-SIZES.true)
 
-returns-2 : tie.Need-returns-2
+returns-2 : tie.Need-returns-then-x-eq-ARC
 unfolding whole_of
 returns-2 c =
     let e = c.before.before.before in
-    simp (ne_eqb _ _ e.if1.false, eq-eqb _ _ c.before.if2.true) c.arc-read.ensures
+    simp (ne_eqb _ _ e.if-x-eq-SIZES.false, eq-eqb _ _ c.before.if-x-eq-ARC.true) c.arc_read.ensures
 
-returns-3 : tie.Need-returns-3
+returns-3 : tie.Need-returns
 unfolding whole_of
 returns-3 c =
     let e = c.before.before in
-    simp (ne_eqb _ _ e.if1.false, ne_eqb _ _ c.if2.false)
+    simp (ne_eqb _ _ e.if-x-eq-SIZES.false, ne_eqb _ _ c.if-x-eq-ARC.false)
 
 pub whole_spec : {M : Type 1} → statement M
 whole_spec = tie.close (tie.spec returns (λ c κs. search rules) returns-2 returns-3)

@@ -6,21 +6,21 @@ use Rattle.road_line.specs.Scan.{with_space}
 use Rattle.road_line.proofs.with_space.Statement.{statement}
 use Rattle.road_line.proofs.with_space.Tie as tie
 
-returns : tie.Need-returns
+returns : tie.Need-returns-then-not-x
 unfolding with_space
-returns c = simp (not-true c.before.before.before.args.x.begun c.before.if1.true) c.spoil.ensures
+returns c = simp (not-true c.before.before.before.args.x.begun c.before.if-not-x.true) c.spoil.ensures
 
-returns-2 : tie.Need-returns-2
+returns-2 : tie.Need-returns-then-x-eq0
 unfolding with_space
 returns-2 c =
     let e = c.before.before.before in
-    simp (not-false e.before.before.args.x.begun e.if1.false, le-ltb 0 e.before.before.args.x.left (omega (arith, c.before.if2.true))) c.spoil2.ensures
+    simp (not-false e.before.before.args.x.begun e.if-not-x.false, le-ltb 0 e.before.before.args.x.left (omega (arith, c.before.if-x-eq0.true))) c.spoil-then-x-eq0.ensures
 
-returns-3 : tie.Need-returns-3
+returns-3 : tie.Need-returns
 unfolding with_space
 returns-3 c =
     let e = c.before.before.before in
-    simp (not-false e.before.before.args.x.begun e.if1.false, lt-ltb 0 e.before.before.args.x.left (omega (arith, c.before.if2.false)))
+    simp (not-false e.before.before.args.x.begun e.if-not-x.false, lt-ltb 0 e.before.before.args.x.left (omega (arith, c.before.if-x-eq0.false)))
 
 pub with_space_spec : {M : Type 1} → statement M
 with_space_spec =

@@ -11,5 +11,5 @@ numbers_spec =
     (tie.spec
     (λ c. search rules)
     (λ c. search rules)
-    (λ c. sym (ap numbers_of c.before.made.given.1))
-    (λ c. sym (ap numbers_of c.before.made2.given.1)))
+    (λ c. sym (ap numbers_of c.in-Done.is))
+    (λ c. sym (ap numbers_of c.in-Refused.is)))

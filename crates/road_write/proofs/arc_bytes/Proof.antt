@@ -12,39 +12,39 @@ use Rattle.road_write.proofs.arc_bytes.Statement.{statement}
 use Rattle.road_write.proofs.arc_bytes.Tie as tie
 
 -- the places of the counts, each from the one after it
-abbrev tail : tie.After-digit-count2 → tie.After-digit-count
+abbrev tail : tie.After-digit_count-to → tie.After-digit_count-from
 tail b = b.before.before
 
-abbrev head : tie.After-digit-count3 → tie.After-digit-count2
+abbrev head : tie.After-digit_count-len → tie.After-digit_count-to
 head c = c.before.before
 
 -- each count is small
-small : (c : tie.After-digit-count3)
-    → ((tail (head c)).digit-count.result ≤ 20) × ((head c).digit-count2.result ≤ 20) × (c.digit-count3.result ≤ 20)
+small : (c : tie.After-digit_count-len)
+    → ((tail (head c)).digit_count-from.result ≤ 20) × ((head c).digit_count-to.result ≤ 20) × (c.digit_count-len.result ≤ 20)
 small c =
     let b = head c in
     let a = tail b in (
-      omega (arith, a.digit-count.ensures, decimal-length (a.before.from-of.result + 1)),
-      omega (arith, b.digit-count2.ensures, decimal-length (b.before.to-of.result + 1)),
-      omega (arith, c.digit-count3.ensures, decimal-length c.before.length-of.result),
+      omega (arith, a.digit_count-from.ensures, decimal-length (a.from_of.result + 1)),
+      omega (arith, b.digit_count-to.ensures, decimal-length (b.to_of.result + 1)),
+      omega (arith, c.digit_count-len.ensures, decimal-length c.length_of.result),
     )
 
 returns : tie.Need-returns
 returns c =
     let b = head c in
     let a = tail b in
-    let s = a.before.before.before in
+    let s = a in
     let t = s.args.table.now in
     let i = s.args.i in
     omega (
       arith,
       line-length (from_at t i + 1) (to_at t i + 1) (len_at t i),
-      a.digit-count.ensures,
-      b.digit-count2.ensures,
-      c.digit-count3.ensures,
-      ap (λ v. length (decimal (v + 1))) a.before.from-of.ensures,
-      ap (λ v. length (decimal (v + 1))) b.before.to-of.ensures,
-      ap (λ v. length (decimal v)) c.before.length-of.ensures,
+      a.digit_count-from.ensures,
+      b.digit_count-to.ensures,
+      c.digit_count-len.ensures,
+      ap (λ v. length (decimal (v + 1))) a.from_of.ensures,
+      ap (λ v. length (decimal (v + 1))) b.to_of.ensures,
+      ap (λ v. length (decimal v)) c.length_of.ensures,
     )
 
 pub arc_bytes_spec : {M : Type 1} → statement M

@@ -10,18 +10,18 @@ use Rattle.road_write.proofs.TextLaws.{line_as}
 use Rattle.road_write.proofs.arc_line.Statement.{statement}
 use Rattle.road_write.proofs.arc_line.Tie as tie
 
-abbrev start : tie.After-length-of → tie.Start
+abbrev start : tie.After-length_of-len → tie.Start
 start l = l.before.before.before.before.before
 
 -- the line of the numbers that were read
-same : (l : tie.After-length-of)
-    → line_text (l.before.before.from-of.result + 1) (l.before.to-of.result + 1) l.length-of.result ≡ arc_text (arc_at (start l).args.table.now (start l).args.i)
-same l = cc (l.before.before.from-of.ensures, l.before.to-of.ensures, l.length-of.ensures)
+same : (l : tie.After-length_of-len)
+    → line_text (l.from_of.result + 1) (l.to_of.result + 1) l.length_of-len.result ≡ arc_text (arc_at l.args.table.now l.args.i)
+same l = cc (l.from_of.ensures, l.to_of.ensures, l.length_of-len.ensures)
 
 returns : tie.Need-returns
 returns c =
-    let x = c.before.before in
-    line_as _ _ _ _ _ _ (same x.before.before) x.line.ensures
+    let x = c in
+    line_as _ _ _ _ _ _ (same x.before.before.before.before) x.line.ensures
 
 line-requires : tie.Need-line-requires
 line-requires c κs = omega (arith, ap (λ z. length (ended z)) (same c.before))

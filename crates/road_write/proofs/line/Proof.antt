@@ -4,7 +4,6 @@ use mathlib.Core.Path.{◌≡◌}
 use Prim.Native.Nat.{◌+◌, ◌≤◌}
 use native.Mathlib.Omega.{arith}
 use lib.ListN.{length, length-set}
-use borrow.Author.Rules.{rules}
 use Rattle.numerals.specs.Decimal.{decimal}
 use Rattle.text_put.specs.Put.{newline}
 use Rattle.text_put.proofs.AppendLaws.{appended-by, appended_one, appended-more}
@@ -15,44 +14,44 @@ use Rattle.road_write.proofs.line.Statement.{statement}
 use Rattle.road_write.proofs.line.Tie as tie
 
 -- the places of the calls, each from the one after it
-abbrev start : tie.After-bytes → tie.Start
-start b = b.before.before.before.before
+abbrev start : tie.After-bytes-first → tie.Start
+start b = b.before.before.before.before.before
 
-abbrev word : tie.After-put → tie.After-bytes
+abbrev word : tie.After-put-second → tie.After-bytes-first
 word w = w.before.before.before.before
 
-abbrev tail : tie.After-spaced → tie.After-put
+abbrev tail : tie.After-spaced-third → tie.After-put-second
 tail x = x.before.before.before.before
 
-abbrev head : tie.After-spaced2 → tie.After-spaced
+abbrev head : tie.After-spaced-last → tie.After-spaced-third
 head y = y.before.before.before.before
 
 -- the length of the whole
 abbrev whole : (s : tie.Start) → length (ended (line_text s.args.tail s.args.head s.args.len)) ≡ length (decimal s.args.tail) + length (decimal s.args.head) + length (decimal s.args.len) + 5
 whole s = line-length s.args.tail s.args.head s.args.len
 
-put-requires : tie.Need-put-requires
+put-requires : tie.Need-put-second-requires
 put-requires c κs =
     let b = c.before.before.before in
-    omega (arith, whole (start b), b.bytes.ensures.place)
+    omega (arith, whole (start b), b.bytes-first.ensures.place)
 
-spaced-requires : tie.Need-spaced-requires
+spaced-requires : tie.Need-spaced-third-requires
 spaced-requires c κs =
     let w = c.before.before.before in
-    omega (arith, whole (start (word w)), (word w).bytes.ensures.place, w.put.ensures.0)
+    omega (arith, whole (start (word w)), (word w).bytes-first.ensures.place, w.put-second.ensures.0)
 
-spaced-requires-2 : tie.Need-spaced-requires-2
+spaced-requires-2 : tie.Need-spaced-last-requires
 spaced-requires-2 c κs =
     let x = c.before.before.before in
     let w = tail x in
-    omega (arith, whole (start (word w)), (word w).bytes.ensures.place, w.put.ensures.0, x.spaced.ensures.place)
+    omega (arith, whole (start (word w)), (word w).bytes-first.ensures.place, w.put-second.ensures.0, x.spaced-third.ensures.place)
 
-slice-write-out : tie.Need-slice-write-out
+slice-write-out : tie.Need-bounds-out-last
 slice-write-out c =
     let y = c.before.before in
     let x = head y in
     let w = tail x in
-    omega (arith, whole (start (word w)), (word w).bytes.ensures.place, w.put.ensures.0, x.spaced.ensures.place, y.spaced2.ensures.place)
+    omega (arith, whole (start (word w)), (word w).bytes-first.ensures.place, w.put-second.ensures.0, x.spaced-third.ensures.place, y.spaced-last.ensures.place)
 
 returns : tie.Need-returns
 returns c =
@@ -64,17 +63,16 @@ returns c =
     let l = s.args.out.now in
     let at = s.args.at in
     let h : at ≤ length l = omega arith in
-    let i = appended-more l at arc_start _ _ (decimal s.args.tail) _ _ b.bytes.ensures (appended-by _ _ _ _ _ w.put.ensures) h in
-    let ii = appended-more l at _ _ _ _ _ _ i x.spaced.ensures h in
-    let iii = appended-more l at _ _ _ _ _ _ ii y.spaced2.ensures h in
+    let i = appended-more l at arc_start _ _ (decimal s.args.tail) _ _ b.bytes-first.ensures (appended-by _ _ _ _ _ w.put-second.ensures) h in
+    let ii = appended-more l at _ _ _ _ _ _ i x.spaced-third.ensures h in
+    let iii = appended-more l at _ _ _ _ _ _ ii y.spaced-last.ensures h in
     rw (← line-parts s.args.tail s.args.head s.args.len) (appended-more l at _ _ _ _ _ _ iii (appended_one _ _ newline (slice-write-out c)) h)
 
 pub line_spec : {M : Type 1} → statement M
 line_spec =
     tie.close
     (tie.spec
-    (λ c. search rules)
-    (λ c κs. omega (arith, whole c.before.before.before))
+    (λ c κs. omega (arith, whole c.before.before.before.before))
     put-requires
     spaced-requires
     spaced-requires-2

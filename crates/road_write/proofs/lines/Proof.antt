@@ -12,44 +12,44 @@ use Rattle.road_write.proofs.TextLaws.{lines_to, lines-room, lines-turn, lines-a
 use Rattle.road_write.proofs.lines.Statement.{statement}
 use Rattle.road_write.proofs.lines.Tie as tie
 
-abbrev invariant-loop : tie.invariant-loop
-invariant-loop out₀ at table n next₀ i₀ out next i = (i ≤ n) × (length out ≡ length out₀) × Appended out₀ at (lines_to table i) out next
+abbrev invariant-loop-i : tie.invariant-loop-i
+invariant-loop-i out₀ at table n next₀ i₀ out next i = (i ≤ n) × (length out ≡ length out₀) × Appended out₀ at (lines_to table i) out next
 
-abbrev decreases-loop : tie.decreases-loop
-decreases-loop out₀ at table n next₀ i₀ out next i = n - i
+abbrev decreases-loop-i : tie.decreases-loop-i
+decreases-loop-i out₀ at table n next₀ i₀ out next i = n - i
 
-abbrev start : tie.At-loop invariant-loop decreases-loop → tie.Start invariant-loop decreases-loop
+abbrev start : tie.At-loop-i invariant-loop-i decreases-loop-i → tie.Start invariant-loop-i decreases-loop-i
 start a = a.before.before.before
 
-loop-holds : tie.Need-loop-init invariant-loop decreases-loop
+loop-holds : tie.Need-loop-i-init invariant-loop-i decreases-loop-i
 unfolding lines_text
 loop-holds c = (search rules, search rules, appended-none _ _)
 
-arc-line-requires : tie.Need-arc-line-requires invariant-loop decreases-loop
+arc-line-requires : tie.Need-arc_line-next-requires invariant-loop-i decreases-loop-i
 arc-line-requires c κs =
-    let a = c.before.before in
-    (omega arith, omega (arith, a.loop.invariant.1, a.loop.invariant.2.place, lines-room (start a).args.table.now a.loop.i (omega arith)))
+    let a = c in
+    (omega arith, omega (arith, a.loop-i.invariant.1, a.loop-i.invariant.2.place, lines-room a.args.table.now a.loop-i.i (omega arith)))
 
-loop-again : tie.Need-loop-preserved invariant-loop decreases-loop
+loop-again : tie.Need-loop-i-preserved invariant-loop-i decreases-loop-i
 loop-again c =
-    let x = c.before.before in
-    let a = x.before.before.before in (
+    let x = c in
+    let a = x in (
       omega arith,
-      omega (arith, a.loop.invariant.1, x.arc-line.auto.0),
-      lines-turn (start a).args.table.now _ _ _ _ a.loop.i _ _ a.loop.invariant.2 x.arc-line.ensures (omega arith),
+      omega (arith, a.loop-i.invariant.1, x.arc_line-next.auto.out),
+      lines-turn a.args.table.now _ _ _ _ a.loop-i.i _ _ a.loop-i.invariant.2 x.arc_line-next.ensures (omega arith),
     )
 
-returns : tie.Need-returns invariant-loop decreases-loop
+returns : tie.Need-returns invariant-loop-i decreases-loop-i
 returns c =
-    let a = c.before in
-    rw (lines-all (start a).args.table.now a.loop.i (omega arith)) at a.loop.invariant.2
+    let a = c in
+    rw (lines-all a.args.table.now a.loop-i.i (omega arith)) at a.loop-i.invariant.2
 
 pub lines_spec : {M : Type 1} → statement M
 lines_spec =
     tie.close
     (tie.spec
-    invariant-loop
-    decreases-loop
+    invariant-loop-i
+    decreases-loop-i
     loop-holds
     arc-line-requires
     (λ c. search rules)

@@ -11,51 +11,51 @@ use Rattle.road_write.proofs.TextLaws.{sizes-most, arc-most, lines_to, lines-mos
 use Rattle.road_write.proofs.needed.Statement.{statement}
 use Rattle.road_write.proofs.needed.Tie as tie
 
-abbrev invariant-loop : tie.invariant-loop
-invariant-loop table nodes n bytes₀ i₀ bytes i = (i ≤ n) × (bytes ≡ length (ended (sizes_text nodes (records table))) + length (lines_to table i))
+abbrev invariant-loop-i : tie.invariant-loop-i
+invariant-loop-i table nodes n bytes₀ i₀ bytes i = (i ≤ n) × (bytes ≡ length (ended (sizes_text nodes (records table))) + length (lines_to table i))
 
-abbrev decreases-loop : tie.decreases-loop
-decreases-loop table nodes n bytes₀ i₀ bytes i = n - i
+abbrev decreases-loop-i : tie.decreases-loop-i
+decreases-loop-i table nodes n bytes₀ i₀ bytes i = n - i
 
-abbrev start : tie.At-loop invariant-loop decreases-loop → tie.Start invariant-loop decreases-loop
+abbrev start : tie.At-loop-i invariant-loop-i decreases-loop-i → tie.Start invariant-loop-i decreases-loop-i
 start a = a.before.before.before
 
-loop-holds : tie.Need-loop-init invariant-loop decreases-loop
+loop-holds : tie.Need-loop-i-init invariant-loop-i decreases-loop-i
 unfolding lines_text
-loop-holds c = (search rules, omega (arith, c.sizes-bytes.ensures))
+loop-holds c = (search rules, omega (arith, c.sizes_bytes-bytes.ensures))
 
-add-bytes : tie.Need-overflow-add-bytes invariant-loop decreases-loop
+add-bytes : tie.Need-overflow_add-bytes invariant-loop-i decreases-loop-i
 add-bytes c =
     let a = c.before.before in
     let s = start a in
     let t = s.args.table.now in
     omega (
       arith,
-      a.loop.invariant.1,
-      c.arc-bytes.ensures,
+      a.loop-i.invariant.1,
+      c.arc_bytes-bytes.ensures,
       sizes-most s.args.nodes (records t),
-      lines-most t a.loop.i,
-      arc-most (arc_at t a.loop.i),
+      lines-most t a.loop-i.i,
+      arc-most (arc_at t a.loop-i.i),
     )
 
-loop-again : tie.Need-loop-preserved invariant-loop decreases-loop
+loop-again : tie.Need-loop-i-preserved invariant-loop-i decreases-loop-i
 loop-again c =
-    let a = c.before.before in
-    (omega arith, omega (arith, a.loop.invariant.1, c.arc-bytes.ensures, lines-longer (start a).args.table.now a.loop.i))
+    let a = c in
+    (omega arith, omega (arith, a.loop-i.invariant.1, c.arc_bytes-bytes.ensures, lines-longer a.args.table.now a.loop-i.i))
 
-returns : tie.Need-returns invariant-loop decreases-loop
+returns : tie.Need-returns invariant-loop-i decreases-loop-i
 returns c =
     let a = c.before in
     let s = start a in
     let t = s.args.table.now in
-    omega (arith, a.loop.invariant.1, ap length (lines-all t a.loop.i (omega arith)), text-length t s.args.nodes)
+    omega (arith, a.loop-i.invariant.1, ap length (lines-all t a.loop-i.i (omega arith)), text-length t s.args.nodes)
 
 pub needed_spec : {M : Type 1} → statement M
 needed_spec =
     tie.close
     (tie.spec
-    invariant-loop
-    decreases-loop
+    invariant-loop-i
+    decreases-loop-i
     (λ c κs. search rules)
     loop-holds
     (λ c κs. search rules)

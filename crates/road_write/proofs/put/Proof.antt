@@ -7,27 +7,27 @@ use Rattle.road_write.proofs.TextLaws.{text-parts, text-length}
 use Rattle.road_write.proofs.put.Statement.{statement}
 use Rattle.road_write.proofs.put.Tie as tie
 
-abbrev start : tie.After-sizes → tie.Start
+abbrev start : tie.After-sizes-first → tie.Start
 start x = x.before.before.before.before
 
 lines-requires : tie.Need-lines-requires
 lines-requires c κs =
-    let x = c.before.before.before in
-    omega (arith, x.sizes.ensures.place, text-length (start x).args.table.now (start x).args.nodes)
+    let x = c in
+    omega (arith, x.sizes-first.ensures.place, text-length x.args.table.now x.args.nodes)
 
 returns : tie.Need-returns
 returns c =
-    let y = c.before.before in
-    let x = y.before.before.before.before in
+    let y = c in
+    let x = y.before.before.before.before.before.before in
     let s = start x in
     rw (← text-parts s.args.table.now s.args.nodes)
-    (appended-more s.args.text.now s.args.at _ _ _ _ _ _ x.sizes.ensures y.lines.ensures (omega arith))
+    (appended-more s.args.text.now s.args.at _ _ _ _ _ _ x.sizes-first.ensures y.lines.ensures (omega arith))
 
 pub put_spec : {M : Type 1} → statement M
 put_spec =
     tie.close
     (tie.spec
-    (λ c κs. let s = c.before.before.before in omega (arith, text-length s.args.table.now s.args.nodes))
+    (λ c κs. let s = c in omega (arith, text-length s.args.table.now s.args.nodes))
     lines-requires
     (λ c. search rules)
     returns)

@@ -3,7 +3,6 @@
 use Prim.Native.Nat.{◌≤◌}
 use native.Mathlib.Omega.{arith}
 use lib.ListN.{length, length-set}
-use borrow.Author.Rules.{rules}
 use Rattle.numerals.specs.Decimal.{decimal}
 use Rattle.text_put.specs.Put.{newline}
 use Rattle.text_put.proofs.AppendLaws.{appended-by, appended_one, appended-more}
@@ -13,32 +12,32 @@ use Rattle.road_write.proofs.sizes.Statement.{statement}
 use Rattle.road_write.proofs.sizes.Tie as tie
 
 -- the places of the calls, each from the one after it
-abbrev start : tie.After-bytes → tie.Start
-start b = b.before.before.before.before
+abbrev start : tie.After-bytes-first → tie.Start
+start b = b.before.before.before.before.before
 
-abbrev word : tie.After-put → tie.After-bytes
+abbrev word : tie.After-put-second → tie.After-bytes-first
 word w = w.before.before.before.before
 
-abbrev nodes : tie.After-spaced → tie.After-put
+abbrev nodes : tie.After-spaced-last → tie.After-put-second
 nodes x = x.before.before.before.before
 
-put-requires : tie.Need-put-requires
+put-requires : tie.Need-put-second-requires
 put-requires c κs =
-    let b = c.before.before.before in
-    omega (arith, sizes-length (start b).args.nodes (start b).args.arcs, b.bytes.ensures.place)
+    let b = c in
+    omega (arith, sizes-length b.args.nodes b.args.arcs, b.bytes-first.ensures.place)
 
-spaced-requires : tie.Need-spaced-requires
+spaced-requires : tie.Need-spaced-last-requires
 spaced-requires c κs =
     let w = c.before.before.before in
     let s = start (word w) in
-    omega (arith, sizes-length s.args.nodes s.args.arcs, (word w).bytes.ensures.place, w.put.ensures.0)
+    omega (arith, sizes-length s.args.nodes s.args.arcs, (word w).bytes-first.ensures.place, w.put-second.ensures.0)
 
-slice-write-out : tie.Need-slice-write-out
+slice-write-out : tie.Need-bounds-out-last
 slice-write-out c =
     let x = c.before.before in
     let w = nodes x in
     let s = start (word w) in
-    omega (arith, sizes-length s.args.nodes s.args.arcs, (word w).bytes.ensures.place, w.put.ensures.0, x.spaced.ensures.place)
+    omega (arith, sizes-length s.args.nodes s.args.arcs, (word w).bytes-first.ensures.place, w.put-second.ensures.0, x.spaced-last.ensures.place)
 
 returns : tie.Need-returns
 returns c =
@@ -49,16 +48,15 @@ returns c =
     let l = s.args.out.now in
     let at = s.args.at in
     let h : at ≤ length l = omega arith in
-    let i = appended-more l at sizes_start _ _ (decimal s.args.nodes) _ _ b.bytes.ensures (appended-by _ _ _ _ _ w.put.ensures) h in
-    let ii = appended-more l at _ _ _ _ _ _ i x.spaced.ensures h in
+    let i = appended-more l at sizes_start _ _ (decimal s.args.nodes) _ _ b.bytes-first.ensures (appended-by _ _ _ _ _ w.put-second.ensures) h in
+    let ii = appended-more l at _ _ _ _ _ _ i x.spaced-last.ensures h in
     rw (← sizes-parts s.args.nodes s.args.arcs) (appended-more l at _ _ _ _ _ _ ii (appended_one _ _ newline (slice-write-out c)) h)
 
 pub sizes_spec : {M : Type 1} → statement M
 sizes_spec =
     tie.close
     (tie.spec
-    (λ c. search rules)
-    (λ c κs. let s = c.before.before.before in omega (arith, sizes-length s.args.nodes s.args.arcs))
+    (λ c κs. let s = c in omega (arith, sizes-length s.args.nodes s.args.arcs))
     put-requires
     spaced-requires
     slice-write-out

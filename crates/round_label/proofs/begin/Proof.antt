@@ -40,56 +40,56 @@ few s = omega (arith, length-earlier_in (width s.args.ask) (length s.args.lens.n
 s-fits : (s : tie.Start) → s.args.ask.s < 2 ^ 16
 s-fits s = omega (arith, s.requires.0.accepted.s-below, nodes-most s.requires.0.accepted)
 
-returns : tie.Need-returns
+returns : tie.Need-returns-then-labels-eq0
 returns c =
     let s = c.before.before.before.before.before.before.before.before in
     (begun-refused (query s) (earlier s) (accepted-valid s.requires.0.accepted s.args.closed.now s.args.labels.now) (few s) s.args.labels.now (omega arith), record { around = but_same _ _ _; listed = λ e. absurd (omega arith); runs = λ e. absurd (omega arith) }, s.requires.3)
 
-put-head-requires : tie.Need-put-head-requires
+put-head-requires : tie.Need-put_head-requires
 put-head-requires c κs =
-    let s = c.before.before.before.before.before.before.before.before.before in
+    let s = c in
     let none = standing-none (arcs_of s.args.table.now) s.args.ask.s s.args.labels.now in
     (omega arith, none.down, none.jumping, λ e. absurd (e refl), omega arith)
 
-abbrev start : tie.After-put-overlaps → tie.Start
-start o = o.before.before.before.before.before.before.before.before.before.before.before.before.before.before.before.before
+abbrev start : tie.After-put_overlaps → tie.Start
+start o = o.before.before.before.before.before.before.before.before.before.before.before.before.before.before.before
 
 -- there is room for it
-roomy : (o : tie.After-put-overlaps) → label_bytes ≤ length (start o).args.labels.now
-roomy o = omega (arith, o.before.before.before.before.before.before.before.before.if1.false)
+roomy : (o : tie.After-put_overlaps) → label_bytes ≤ length o.args.labels.now
+roomy o = omega (arith, o.if-labels-eq0.false)
 
 -- the first label is put
-opened : (o : tie.After-put-overlaps) → let s = start o in
-    o.put-overlaps.new.0 ≡ put_row s.args.labels.now 0 (empty_row (net_for s.args.ask s.args.table.now s.args.closed.now) s.args.ask.s (earlier s))
+opened : (o : tie.After-put_overlaps) → let s = start o in
+    o.put_overlaps.new.labels ≡ put_row s.args.labels.now 0 (empty_row (net_for s.args.ask s.args.table.now s.args.closed.now) s.args.ask.s (earlier s))
 opened o =
-    let p = o.before.before.before.before.before.before in
+    let p = o in
     let s = start o in
     let net = net_for s.args.ask s.args.table.now s.args.closed.now in
-    row_put s.args.labels.now 0 (empty_row net s.args.ask.s (earlier s)) _ _ p.put-head.ensures
-    (o.put-overlaps.ensures ∙ ap (puts p.put-head.new.0 head_bytes) (zeros net (earlier s) (length s.args.lens.now) (few s) (length-earlier_in (width s.args.ask) (length s.args.lens.now) s.args.area.now)))
+    row_put s.args.labels.now 0 (empty_row net s.args.ask.s (earlier s)) _ _ p.put_head.ensures
+    (o.put_overlaps.ensures ∙ ap (puts p.put_head.new.labels head_bytes) (zeros net (earlier s) (length s.args.lens.now) (few s) (length-earlier_in (width s.args.ask) (length s.args.lens.now) s.args.area.now)))
 
 -- where the label was put, and then the start of its run
-abbrev put : tie.After-put-run → tie.After-put-overlaps
+abbrev put : tie.After-put_run → tie.After-put_overlaps
 put p = p.before.before.before.before.before
 
-run_is : (p : tie.After-put-run) → let s = start (put p) in p.put-run.new.0 ≡ put_run (put p).put-overlaps.new.0 0 (run_start s.args.table.now s.args.ask.s)
-run_is p = p.put-run.ensures ∙ ap (put_run (put p).put-overlaps.new.0 0) p.before.before.run-start.ensures
+run_is : (p : tie.After-put_run) → let s = start (put p) in p.put_run.new.labels ≡ put_run (put p).put_overlaps.new.labels 0 (run_start s.args.table.now s.args.ask.s)
+run_is p = p.put_run.ensures ∙ ap (put_run (put p).put_overlaps.new.labels 0) p.run_start-first.ensures
 
-cast-put-run : tie.Need-overflow-cast-put-run
+cast-put-run : tie.Need-overflow_cast-first
 cast-put-run c =
-    let r = c.before in
-    let s = start r.before.before.before in
-    omega (arith, r.run-start.ensures, run-le s.args.table.now s.args.ask.s, few-records s.pre.0.accepted)
+    let r = c in
+    let s = start r.before.before.before.before in
+    omega (arith, r.run_start-first.ensures, run-le s.args.table.now s.args.ask.s, few-records s.requires.0.accepted)
 
 begin-requires : tie.Need-begin-requires
 begin-requires c κs =
     let p = c.before.before.before in
     let o = put p in
     let s = start o in
-    let f = first-at s.args.ask s.args.table.now s.args.closed.now s.args.area.now s.args.lens.now s.args.marks.now s.args.labels.now s.pre.0.accepted s.pre.0.earlier s.pre.1 (few s) (roomy o) _ (opened o) _ (run_is p) in
-    (f.0, f.1, s.pre.2.room, s.pre.2.blank)
+    let f = first-at s.args.ask s.args.table.now s.args.closed.now s.args.area.now s.args.lens.now s.args.marks.now s.args.labels.now s.requires.0.accepted s.requires.0.earlier s.requires.1 (few s) (roomy o) _ (opened o) _ (run_is p) in
+    (f.0, f.1, s.requires.2.room, s.requires.2.blank)
 
-abbrev ran : tie.After-begin → tie.After-put-run
+abbrev ran : tie.After-begin → tie.After-put_run
 ran g = g.before.before.before.before
 
 begin-requires-2 : tie.Need-begin-requires-2
@@ -98,27 +98,27 @@ begin-requires-2 c κs =
     let p = ran g in
     let o = put p in
     let s = start o in
-    (first-judging s.args.ask s.args.table.now s.args.closed.now s.args.area.now s.args.lens.now s.args.marks.now s.args.labels.now s.pre.0.accepted s.pre.0.earlier s.pre.1 (few s) (roomy o) _ (opened o) _ (run_is p) _ g.begin.ensures.0 g.begin.ensures.1, s.pre.3)
+    (first-judging s.args.ask s.args.table.now s.args.closed.now s.args.area.now s.args.lens.now s.args.marks.now s.args.labels.now s.requires.0.accepted s.requires.0.earlier s.requires.1 (few s) (roomy o) _ (opened o) _ (run_is p) _ g.begin.ensures.0 g.begin.ensures.1, s.requires.3)
 
-returns-2 : tie.Need-returns-2
+returns-2 : tie.Need-returns
 returns-2 c =
-    let k = c.before.before.before.before in
-    let g = k.before.before.before.before.before in
+    let k = c in
+    let g = k.before.before.before.before.before.before.before.before.before in
     let p = ran g in
     let o = put p in
     let s = start o in
-    let j = first-judging s.args.ask s.args.table.now s.args.closed.now s.args.area.now s.args.lens.now s.args.marks.now s.args.labels.now s.pre.0.accepted s.pre.0.earlier s.pre.1 (few s) (roomy o) _ (opened o) _ (run_is p) _ g.begin.ensures.0 g.begin.ensures.1 in (
-      begun_first (query s) (earlier s) (accepted-valid s.pre.0.accepted s.args.closed.now s.args.labels.now) (few s) s.args.labels.now _
-          (subst (λ b. Only 20 20 1 b k.begin2.new.1.1.1.1.1.1.0) (opened o)
-          (only-trans (first-working s.args.ask s.args.table.now s.args.closed.now s.args.area.now s.args.lens.now s.args.marks.now s.args.labels.now s.pre.0.accepted s.pre.0.earlier s.pre.1 (few s) (roomy o) _ (opened o) _ (run_is p) _ g.begin.ensures.0) k.begin2.ensures.0))
-          (first-queued s.args.ask s.args.table.now s.args.closed.now s.args.area.now s.args.lens.now s.args.marks.now s.args.labels.now s.pre.0.accepted s.pre.0.earlier s.pre.1 (few s) (roomy o) _ (opened o) _ (run_is p) _ g.begin.ensures.0 _ k.begin2.ensures.2)
-          (s-fits s) (roomy o) (omega (arith, roomy o)) s.pre.0.accepted.apart,
+    let j = first-judging s.args.ask s.args.table.now s.args.closed.now s.args.area.now s.args.lens.now s.args.marks.now s.args.labels.now s.requires.0.accepted s.requires.0.earlier s.requires.1 (few s) (roomy o) _ (opened o) _ (run_is p) _ g.begin.ensures.0 g.begin.ensures.1 in (
+      begun_first (query s) (earlier s) (accepted-valid s.requires.0.accepted s.args.closed.now s.args.labels.now) (few s) s.args.labels.now _
+          (subst (λ b. Only 20 20 1 b k.begin-2.new.labels) (opened o)
+          (only-trans (first-working s.args.ask s.args.table.now s.args.closed.now s.args.area.now s.args.lens.now s.args.marks.now s.args.labels.now s.requires.0.accepted s.requires.0.earlier s.requires.1 (few s) (roomy o) _ (opened o) _ (run_is p) _ g.begin.ensures.0) k.begin-2.ensures.0))
+          (first-queued s.args.ask s.args.table.now s.args.closed.now s.args.area.now s.args.lens.now s.args.marks.now s.args.labels.now s.requires.0.accepted s.requires.0.earlier s.requires.1 (few s) (roomy o) _ (opened o) _ (run_is p) _ g.begin.ensures.0 _ k.begin-2.ensures.2)
+          (s-fits s) (roomy o) (omega (arith, roomy o)) s.requires.0.accepted.apart,
       record {
         around = but_same _ _ _;
-        listed = λ e. listed-only (λ z. omega arith) s.pre.0.few g.begin.ensures.1 k.begin2.ensures.0 k.begin2.ensures.1;
-        runs = λ e. runs-only s.args.table.now _ 1 j.runs k.begin2.ensures.0 k.begin2.ensures.1;
+        listed = λ e. listed-only (λ z. omega arith) s.requires.0.few g.begin.ensures.1 k.begin-2.ensures.0 k.begin-2.ensures.1;
+        runs = λ e. runs-only s.args.table.now _ 1 j.runs k.begin-2.ensures.0 k.begin-2.ensures.1;
       },
-      k.begin2.ensures.3,
+      k.begin-2.ensures.3,
     )
 
 pub begin_spec : {M : Type 1} → statement M
@@ -132,9 +132,9 @@ begin_spec =
     (λ c. search rules)
     (λ c. search rules)
     (λ c κs. search rules)
-    (λ c κs. let s = start c.before.before in s.pre.0.accepted.no-fault)
+    (λ c κs. let s = start c.before.before in s.requires.0.accepted.no-fault)
     cast-put-run
-    (λ c κs. let o = c.before.before.before.before in omega (arith, roomy o, ap length (opened o), length-put_row (start o).args.labels.now 0 (empty_row (net_for (start o).args.ask (start o).args.table.now (start o).args.closed.now) (start o).args.ask.s (earlier (start o)))))
+    (λ c κs. let o = c.before.before.before.before in omega (arith, roomy o, ap length (opened o), length-put_row o.args.labels.now 0 (empty_row (net_for o.args.ask o.args.table.now o.args.closed.now) o.args.ask.s (earlier (start o)))))
     begin-requires
     begin-requires-2
     (λ c. search rules)

@@ -5,12 +5,12 @@ use Rattle.round_label.proofs.EnterLaws.{judging-few, own-few, stored-listed, st
 use Rattle.round_label.proofs.enter.Statement.{statement}
 use Rattle.round_label.proofs.enter.Tie as tie
 
-abbrev start : tie.After-take-up → tie.Start
+abbrev start : tie.After-take_up → tie.Start
 start p = p.before.before.before.before.before.before.before.before.before.before
 
-take-up-requires : tie.Need-take-up-requires
+take-up-requires : tie.Need-take_up-requires
 take-up-requires c κs =
-    let s = c.before.before.before.before.before.before.before.before.before in (
+    let s = c in (
       s.requires.0.searching,
       s.requires.1,
       s.requires.2.few,
@@ -20,31 +20,31 @@ take-up-requires c κs =
 
 start-requires : tie.Need-start-requires
 start-requires c κs =
-    let p = c.before.before.before.before in
+    let p = c.before.before.before in
     let s = start p in (
-      s.pre.0.searching.accepted.no-fault,
-      stored-listed s.args.ask s.args.table.now s.args.closed.now s.args.area.now s.args.lens.now s.args.marks.now s.args.labels.now s.args.n s.args.c s.args.own.now s.args.root s.pre.0 s.pre.1 s.pre.2 _ p.take-up.ensures,
-      stored-runs s.args.ask s.args.table.now s.args.closed.now s.args.area.now s.args.lens.now s.args.marks.now s.args.labels.now s.args.n s.args.c s.args.own.now s.args.root s.pre.0 s.pre.1 s.pre.2 _ p.take-up.ensures,
-      stored-room s.args.ask s.args.table.now s.args.closed.now s.args.area.now s.args.lens.now s.args.marks.now s.args.labels.now s.args.n s.args.c s.args.own.now s.args.root s.pre.0 s.pre.1 s.pre.2 _ p.take-up.ensures,
-      stored-end s.args.ask s.args.table.now s.args.closed.now s.args.area.now s.args.lens.now s.args.marks.now s.args.labels.now s.args.n s.args.c s.args.own.now s.args.root s.pre.0 s.pre.1 s.pre.2 _ p.take-up.ensures,
-      stored-away s.args.ask s.args.table.now s.args.closed.now s.args.area.now s.args.lens.now s.args.marks.now s.args.labels.now s.args.n s.args.c s.args.own.now s.args.root s.pre.0 s.pre.1 s.pre.2 _ p.take-up.ensures,
+      s.requires.0.searching.accepted.no-fault,
+      stored-listed s.args.ask s.args.table.now s.args.closed.now s.args.area.now s.args.lens.now s.args.marks.now s.args.labels.now s.args.n s.args.c s.args.own.now s.args.root s.requires.0 s.requires.1 s.requires.2 _ p.take_up.ensures,
+      stored-runs s.args.ask s.args.table.now s.args.closed.now s.args.area.now s.args.lens.now s.args.marks.now s.args.labels.now s.args.n s.args.c s.args.own.now s.args.root s.requires.0 s.requires.1 s.requires.2 _ p.take_up.ensures,
+      stored-room s.args.ask s.args.table.now s.args.closed.now s.args.area.now s.args.lens.now s.args.marks.now s.args.labels.now s.args.n s.args.c s.args.own.now s.args.root s.requires.0 s.requires.1 s.requires.2 _ p.take_up.ensures,
+      stored-end s.args.ask s.args.table.now s.args.closed.now s.args.area.now s.args.lens.now s.args.marks.now s.args.labels.now s.args.n s.args.c s.args.own.now s.args.root s.requires.0 s.requires.1 s.requires.2 _ p.take_up.ensures,
+      stored-away s.args.ask s.args.table.now s.args.closed.now s.args.area.now s.args.lens.now s.args.marks.now s.args.labels.now s.args.n s.args.c s.args.own.now s.args.root s.requires.0 s.requires.1 s.requires.2 _ p.take_up.ensures,
     )
 
-abbrev put : tie.After-start → tie.After-take-up
-put u = u.before.before.before.before.before
+abbrev put : tie.After-start → tie.After-take_up
+put u = u.before.before.before.before
 
 enlist-requires : tie.Need-enlist-requires
 enlist-requires c κs =
     let u = c.before.before.before.before in
     let p = put u in
     let s = start p in (
-      run-listed s.args.ask s.args.table.now s.args.closed.now s.args.area.now s.args.lens.now s.args.marks.now s.args.labels.now s.args.n s.args.c s.args.own.now s.args.root s.pre.0 s.pre.1 s.pre.2 _ p.take-up.ensures _ u.start.ensures,
-      s.pre.2.begun,
-      s.pre.2.few,
-      run_room s.args.ask s.args.table.now s.args.closed.now s.args.area.now s.args.lens.now s.args.marks.now s.args.labels.now s.args.n s.args.c s.args.own.now s.args.root s.pre.0 s.pre.1 s.pre.2 _ p.take-up.ensures _ u.start.ensures,
-      judging-few s.pre.0,
-      run_end s.args.ask s.args.table.now s.args.closed.now s.args.area.now s.args.lens.now s.args.marks.now s.args.labels.now s.args.n s.args.c s.args.own.now s.args.root s.pre.0 s.pre.1 s.pre.2 _ p.take-up.ensures _ u.start.ensures,
-      run-away s.args.ask s.args.table.now s.args.closed.now s.args.area.now s.args.lens.now s.args.marks.now s.args.labels.now s.args.n s.args.c s.args.own.now s.args.root s.pre.0 s.pre.1 s.pre.2 _ p.take-up.ensures _ u.start.ensures,
+      run-listed s.args.ask s.args.table.now s.args.closed.now s.args.area.now s.args.lens.now s.args.marks.now s.args.labels.now s.args.n s.args.c s.args.own.now s.args.root s.requires.0 s.requires.1 s.requires.2 _ p.take_up.ensures _ u.start.ensures,
+      s.requires.2.begun,
+      s.requires.2.few,
+      run_room s.args.ask s.args.table.now s.args.closed.now s.args.area.now s.args.lens.now s.args.marks.now s.args.labels.now s.args.n s.args.c s.args.own.now s.args.root s.requires.0 s.requires.1 s.requires.2 _ p.take_up.ensures _ u.start.ensures,
+      judging-few s.requires.0,
+      run_end s.args.ask s.args.table.now s.args.closed.now s.args.area.now s.args.lens.now s.args.marks.now s.args.labels.now s.args.n s.args.c s.args.own.now s.args.root s.requires.0 s.requires.1 s.requires.2 _ p.take_up.ensures _ u.start.ensures,
+      run-away s.args.ask s.args.table.now s.args.closed.now s.args.area.now s.args.lens.now s.args.marks.now s.args.labels.now s.args.n s.args.c s.args.own.now s.args.root s.requires.0 s.requires.1 s.requires.2 _ p.take_up.ensures _ u.start.ensures,
     )
 
 abbrev started : tie.After-enlist → tie.After-start
@@ -52,23 +52,23 @@ started x = x.before.before.before.before.before
 
 enter-requires : tie.Need-enter-requires
 enter-requires c κs =
-    let x = c.before.before.before.before.before.before.before in
+    let x = c.before.before.before.before.before.before in
     let u = started x in
     let p = put u in
     let s = start p in (
-      listed-judging s.args.ask s.args.table.now s.args.closed.now s.args.area.now s.args.lens.now s.args.marks.now s.args.labels.now s.args.n s.args.c s.args.own.now s.args.root s.pre.0 s.pre.1 s.pre.2 _ p.take-up.ensures _ u.start.ensures _ _ x.enlist.ensures.0 x.enlist.ensures.1 x.enlist.ensures.2,
-      listed-queued s.args.ask s.args.table.now s.args.closed.now s.args.area.now s.args.lens.now s.args.marks.now s.args.labels.now s.args.n s.args.c s.args.own.now s.args.root s.pre.0 s.pre.1 s.pre.2 _ p.take-up.ensures _ u.start.ensures _ _ x.enlist.ensures.0 x.enlist.ensures.1,
-      s.pre.3,
+      listed-judging s.args.ask s.args.table.now s.args.closed.now s.args.area.now s.args.lens.now s.args.marks.now s.args.labels.now s.args.n s.args.c s.args.own.now s.args.root s.requires.0 s.requires.1 s.requires.2 _ p.take_up.ensures _ u.start.ensures _ _ x.enlist.ensures.0 x.enlist.ensures.1 x.enlist.ensures.2,
+      listed-queued s.args.ask s.args.table.now s.args.closed.now s.args.area.now s.args.lens.now s.args.marks.now s.args.labels.now s.args.n s.args.c s.args.own.now s.args.root s.requires.0 s.requires.1 s.requires.2 _ p.take_up.ensures _ u.start.ensures _ _ x.enlist.ensures.0 x.enlist.ensures.1,
+      s.requires.3,
     )
 
 returns : tie.Need-returns
 returns c =
-    let v = c.before.before.before.before in
-    let x = v.before.before.before.before.before.before.before.before in
+    let v = c in
+    let x = v.before.before.before.before.before.before.before.before.before.before.before in
     let u = started x in
     let p = put u in
     let s = start p in
-    let e = entered s.args.ask s.args.table.now s.args.closed.now s.args.area.now s.args.lens.now s.args.marks.now s.args.labels.now s.args.n s.args.c s.args.own.now s.args.root s.pre.0 s.pre.1 s.pre.2 _ p.take-up.ensures _ u.start.ensures _ _ x.enlist.ensures.0 x.enlist.ensures.1 x.enlist.ensures.2
+    let e = entered s.args.ask s.args.table.now s.args.closed.now s.args.area.now s.args.lens.now s.args.marks.now s.args.labels.now s.args.n s.args.c s.args.own.now s.args.root s.requires.0 s.requires.1 s.requires.2 _ p.take_up.ensures _ u.start.ensures _ _ x.enlist.ensures.0 x.enlist.ensures.1 x.enlist.ensures.2
     _ v.enter.result v.enter.ensures.0 v.enter.ensures.1 v.enter.ensures.2 in
     (e.0, e.1, e.2, e.3, v.enter.ensures.3)
 

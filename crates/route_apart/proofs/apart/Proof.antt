@@ -8,20 +8,20 @@ use Rattle.route_apart.proofs.apart.Tie as tie
 abbrev start : tie.After-length → tie.Start
 start c = c.before.before.before.before
 
-add-both : tie.Need-overflow-add-both
+add-both : tie.Need-overflow_add-both
 add-both c =
     let s = start c in
-    omega (arith, route-most s.args.table.now s.args.nodes s.args.slot.now s.pre.0 s.pre.2, c.length.ensures, s.pre.5)
+    omega (arith, route-most s.args.table.now s.args.nodes s.args.slot.now s.requires.0 s.requires.2, c.length.ensures, s.requires.5)
 
-sub-t9 : tie.Need-overflow-sub-t9
+sub-t9 : tie.Need-overflow_sub-result
 sub-t9 c =
     let s = start c.before in
-    omega (arith, marked-short s.args.table.now s.args.room.now s.args.slot.now, c.shared.ensures, c.before.length.ensures, s.pre.4)
+    omega (arith, marked-short s.args.table.now s.args.room.now s.args.slot.now, c.shared-common.ensures, c.length.ensures, s.requires.4)
 
 returns : tie.Need-returns
 returns c =
     let s = start c.before in
-    apart-made s.args.table.now s.args.room.now s.args.slot.now s.args.size c.before.length.result c.shared.result c.before.length.ensures c.shared.ensures
+    apart-made s.args.table.now s.args.room.now s.args.slot.now s.args.size c.length.result c.shared-common.result c.length.ensures c.shared-common.ensures
 
 pub apart_spec : {M : Type 1} → statement M
 apart_spec =

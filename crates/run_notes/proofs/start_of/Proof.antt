@@ -7,7 +7,7 @@ use Rattle.run_notes.proofs.start_of.Tie as tie
 
 returns : tie.Need-returns
 returns c =
-    let s = c.before.before.before in
+    let s = c in
     c.word.ensures ∙ s.requires.1.at s.args.v s.requires.2
 
 pub start_of_spec : {M : Type 1} → statement M

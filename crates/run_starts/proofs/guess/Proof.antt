@@ -6,7 +6,7 @@ use borrow.Author.Rules.{rules}
 use Rattle.run_starts.proofs.guess.Statement.{statement}
 use Rattle.run_starts.proofs.guess.Tie as tie
 
-mul-result : tie.Need-overflow-mul-result
+mul-result : tie.Need-overflow_mul-result
 mul-result c =
     let p : c.args.v ≤ 4294967295 = omega arith in
     let q : c.args.n ≤ 4294967295 = omega (arith, c.requires.1) in

@@ -7,11 +7,11 @@ use lib.Dec.{T}
 use Rattle.run_starts.proofs.near.Statement.{statement}
 use Rattle.run_starts.proofs.near.Tie as tie
 
-returns : tie.Need-returns
-returns c = ⊎_elim (λ z. absurd (subst T (sym c.if1.true ∙ z) tt)) (λ e. e) c.before.starts-at.ensures
+returns : tie.Need-returns-then-starts_at
+returns c = ⊎_elim (λ z. absurd (subst T (sym c.if-starts_at.true ∙ z) tt)) (λ e. e) c.before.starts_at.ensures
 
-returns-2 : tie.Need-returns-2
-returns-2 c = ⊎_elim (λ z. absurd (subst T (sym c.if2.true ∙ z) tt)) (λ e. e) c.before.starts-at2.ensures
+returns-2 : tie.Need-returns-then-starts_at-2
+returns-2 c = ⊎_elim (λ z. absurd (subst T (sym c.if-starts_at-2.true ∙ z) tt)) (λ e. e) c.before.starts_at-2.ensures
 
 pub near_spec : {M : Type 1} → statement M
 near_spec = tie.close (tie.spec (λ c κs. search rules) returns (λ c κs. search rules) (λ c κs. search rules) returns-2 (λ c κs. search rules) (λ c. search rules))

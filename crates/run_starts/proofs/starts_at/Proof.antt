@@ -8,7 +8,7 @@ use Rattle.table.proofs.RunLaws.{run_past, run-to}
 use Rattle.run_starts.proofs.starts_at.Statement.{statement}
 use Rattle.run_starts.proofs.starts_at.Tie as tie
 
-returns-5 : tie.Need-returns-5
+returns-5 : tie.Need-returns
 returns-5 c =
     let b = c.before in
     let a = b.before.before in
@@ -16,9 +16,9 @@ returns-5 c =
     let s = e.before.before.before in
     inr (omega (
       arith,
-      e.before.if1.false,
-      run-to s.args.table.now s.args.v s.args.g (omega (arith, b.before.if3.false, a.from-of.ensures)),
-      run_past s.args.nodes s.args.table.now s.requires s.args.v (s.args.g - 1) (omega (arith, e.if2.false)) (omega (arith, c.if4.false, b.from-of2.ensures)),
+      e.before.if-g-lt1.false,
+      run-to s.args.table.now s.args.v s.args.g (omega (arith, b.before.if-from_of-v.false, a.from_of.ensures)),
+      run_past s.args.nodes s.args.table.now s.requires s.args.v (s.args.g - 1) (omega (arith, e.if-table-g.false)) (omega (arith, c.if-v-from_of.false, b.from_of-2.ensures)),
     ))
 
 pub starts_at_spec : {M : Type 1} → statement M

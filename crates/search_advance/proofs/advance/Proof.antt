@@ -22,7 +22,7 @@ use Rattle.search_advance.proofs.RankLaws.{came-at}
 use Rattle.search_advance.proofs.advance.Statement.{statement}
 use Rattle.search_advance.proofs.advance.Tie as tie
 
-abbrev start : tie.After-end → tie.Start
+abbrev start : tie.After-end-v → tie.Start
 start c = c.before.before.before.before.before.before.before.before
 
 ok : (s : tie.Start) → table_fault s.args.ask.nodes s.args.table.now ≡ good
@@ -38,41 +38,41 @@ small : (s : tie.Start) → s.args.x.from ≢ no_number → s.args.x.from < most
 small s ne = omega (arith, s.requires.2 ne, size s)
 
 -- v is the end of the label's chain, and its run is the label's
-v-is : (c : tie.After-end) → c.end.result ≡ end_in (start c).args.ask (start c).args.table.now (start c).args.labels.now (start c).args.x.label
-v-is c = c.end.ensures ∙ (start c).requires.0.searching.standing.ends (start c).args.x.label (start c).requires.1
+v-is : (c : tie.After-end-v) → c.end-v.result ≡ end_in c.args.ask c.args.table.now c.args.labels.now c.args.x.label
+v-is c = c.end-v.ensures ∙ c.requires.0.searching.standing.ends c.args.x.label c.requires.1
 
-first-is : (c : tie.After-run) → c.run.result ≡ run_start (start c.before).args.table.now c.before.end.result
+first-is : (c : tie.After-run-first) → c.run-first.result ≡ run_start c.args.table.now c.end-v.result
 first-is c =
     let s = start c.before in
-    c.run.ensures ∙ s.pre.0.runs s.args.x.label s.pre.1 ∙ ap (run_start s.args.table.now) (sym c.before.end.ensures)
+    c.run-first.ensures ∙ s.requires.0.runs s.args.x.label s.requires.1 ∙ ap (run_start s.args.table.now) (sym c.end-v.ensures)
 
-by-batch-requires : tie.Need-by-batch-requires
+by-batch-requires : tie.Need-by_batch-requires
 by-batch-requires c κs =
-    let r = c.before in
+    let r = c in
     let s = start r.before in
-    (s.pre.2, size s, omega (arith, first-is r, run-le s.args.table.now r.before.end.result), s.pre.3.long, omega (arith, s.pre.3.at_most, s.pre.3.count_most))
+    (s.requires.2, size s, omega (arith, first-is r, run-le s.args.table.now r.end-v.result), s.requires.3.long, omega (arith, s.requires.3.at_most, s.requires.3.count_most))
 
-rank-from-requires : tie.Need-rank-from-requires
-rank-from-requires c κs = let s = start c.before.before.before.before in (s.pre.2, size s)
+rank-from-requires : tie.Need-rank_from-rank-requires
+rank-from-requires c κs = let s = start c.before.before.before in (s.requires.2, size s)
 
 after-requires : tie.Need-after-requires
 after-requires c κs =
-    let r = c.before.before.before.before.before in
+    let r = c.before.before.before.before in
     let s = start r.before in
-    (ok s, first-is r, s.pre.3)
+    (ok s, first-is r, s.requires.3)
 
-returns : tie.Need-returns
+returns : tie.Need-returns-then-by_batch
 returns c =
-    let d = c.before.before in
-    let k = d.before.before in
-    let r = k.before.before.before.before in
-    let e = r.before in
+    let d = c in
+    let k = d in
+    let r = k in
+    let e = r.before.before.before.before.before.before.before.before in
     let s = start e in
     let t = s.args.table.now in
     let net = net_for s.args.ask t s.args.closed.now in
     let y = d.after.result in
-    let w = d.after.new.1.1.1.0 in
-    let came = subst (λ low. Came net (records t) e.end.result low y w) k.rank-from.ensures d.after.ensures in (
+    let w = d.after.new.ahead in
+    let came = subst (λ low. Came net (records t) e.end-v.result low y w) k.rank_from-rank.ensures d.after.ensures in (
       came-at (query_for s.args.ask t s.args.closed.now s.args.labels.now) (few s) (table-sound s.args.ask.nodes t (ok s) s.args.closed.now).positive
           (earlier_of s.args.ask s.args.area.now s.args.lens.now) (chains_in s.args.labels.now s.args.x.n) (chain_at s.args.labels.now s.args.x.label) s.args.x.from (small s) (records t) y w
           (subst (λ v. Came net (records t) v (rank_from (arcs_of t) s.args.x.from) y w) (v-is e) came),
@@ -81,9 +81,9 @@ returns c =
 
 pass-requires : tie.Need-pass-requires
 pass-requires c κs =
-    let r = c.before.before.before in
+    let r = c.before.before in
     let s = start r.before in
-    (s.pre.0, s.pre.1, s.pre.2, v-is r.before, first-is r)
+    (s.requires.0, s.requires.1, s.requires.2, v-is r.before, first-is r)
 
 pub advance_spec : {M : Type 1} → statement M
 advance_spec =
@@ -99,4 +99,4 @@ advance_spec =
     returns
     pass-requires
     (λ c. search rules)
-    (λ c. (c.pass.ensures, (start c.before.before.before.before.before).requires.3)))
+    (λ c. (c.pass.ensures, c.requires.3)))

@@ -6,26 +6,26 @@ use Rattle.search_advance.proofs.OwnLaws.{arc-less, arc-more, arc-even}
 use Rattle.search_advance.proofs.arc_first.Statement.{statement}
 use Rattle.search_advance.proofs.arc_first.Tie as tie
 
-abbrev start : tie.After-length-of2 → tie.Start
+abbrev start : tie.After-length_of-m → tie.Start
 start d = d.before.before.before
 
-returns : tie.Need-returns
+returns : tie.Need-returns-then-l-m
 returns c =
     let d = c.before in
     let s = start d in
-    sym (arc-less _ _ _ _ _ s.pre.0 s.pre.1 d.before.length-of.ensures d.length-of2.ensures c.if1.true)
+    sym (arc-less _ _ _ _ _ s.requires.0 s.requires.1 d.length_of-l.ensures d.length_of-m.ensures c.if-l-m.true)
 
-returns-2 : tie.Need-returns-2
+returns-2 : tie.Need-returns-then-m-l
 returns-2 c =
     let d = c.before.before in
     let s = start d in
-    sym (arc-more _ _ _ _ _ s.pre.0 s.pre.1 d.before.length-of.ensures d.length-of2.ensures c.if2.true)
+    sym (arc-more _ _ _ _ _ s.requires.0 s.requires.1 d.length_of-l.ensures d.length_of-m.ensures c.if-m-l.true)
 
-returns-3 : tie.Need-returns-3
+returns-3 : tie.Need-returns
 returns-3 c =
     let d = c.before.before in
     let s = start d in
-    sym (arc-even _ _ _ _ _ s.pre.0 s.pre.1 d.before.length-of.ensures d.length-of2.ensures (omega arith) (omega arith))
+    sym (arc-even _ _ _ _ _ s.requires.0 s.requires.1 d.length_of-l.ensures d.length_of-m.ensures (omega arith) (omega arith))
 
 pub arc_first_spec : {M : Type 1} → statement M
 arc_first_spec =

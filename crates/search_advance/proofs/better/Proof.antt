@@ -46,26 +46,26 @@ best-below s ne =
 wanted-requires : tie.Need-wanted-requires
 wanted-requires c κs = let s = c.before.before.before.before.before.before in (s.requires.2, best-below s, below s)
 
-returns : tie.Need-returns
+returns : tie.Need-returns-then-not-wanted
 returns c =
     let s = start c.before in
-    look-past (query s) (earlier s) (taken s) (chain s) s.args.x.from s.args.best s.args.arc s.pre.3 s.pre.4 (sym c.before.wanted.ensures ∙ not-true _ c.if1.true)
+    look-past (query s) (earlier s) (taken s) (chain s) s.args.x.from s.args.best s.args.arc s.requires.3 s.requires.4 (sym c.wanted.ensures ∙ c.if-not-wanted.true)
 
 dropped-requires : tie.Need-dropped-requires
-dropped-requires c κs = let s = start c.before in (s.pre.0, record { label-below = s.pre.1; arc-below = below s })
+dropped-requires c κs = let s = start c.before in (s.requires.0, record { label-below = s.requires.1; arc-below = below s })
 
-returns-2 : tie.Need-returns-2
+returns-2 : tie.Need-returns-then-dropped
 returns-2 c =
     let s = start c.before.before.before in
-    look-drop (query s) (earlier s) (taken s) (chain s) s.args.x.from s.args.best s.args.arc s.pre.3 s.pre.4
-    (passes-open s.args.ask s.args.table.now s.args.closed.now [] s.args.labels.now (earlier s) (taken s) _ ∙ not-true _ (sym c.before.dropped.ensures ∙ c.if2.true))
+    look-drop (query s) (earlier s) (taken s) (chain s) s.args.x.from s.args.best s.args.arc s.requires.3 s.requires.4
+    (passes-open s.args.ask s.args.table.now s.args.closed.now [] s.args.labels.now (earlier s) (taken s) _ ∙ not-true _ (sym c.dropped.ensures ∙ c.if-dropped.true))
 
-returns-3 : tie.Need-returns-3
+returns-3 : tie.Need-returns
 returns-3 c =
-    let e = c.before.before in
-    let s = start e.before in
-    look-new (query s) (earlier s) (taken s) (chain s) s.args.x.from s.args.best s.args.arc s.pre.3 s.pre.4 (sym e.before.wanted.ensures ∙ not-false _ e.if1.false)
-    (λ z. omega (arith, below s, few-records s.pre.0.searching.accepted))
+    let e = c in
+    let s = start e.before.before.before in
+    look-new (query s) (earlier s) (taken s) (chain s) s.args.x.from s.args.best s.args.arc s.requires.3 s.requires.4 (sym e.wanted.ensures ∙ e.if-not-wanted.false)
+    (λ z. omega (arith, below s, few-records s.requires.0.searching.accepted))
 
 pub better_spec : {M : Type 1} → statement M
 better_spec = tie.close (tie.spec wanted-requires returns dropped-requires returns-2 returns-3)

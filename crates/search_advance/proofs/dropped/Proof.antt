@@ -20,7 +20,7 @@ use Rattle.search_trial.proofs.TrialLaws.{own-many, measured, passes-here}
 use Rattle.search_advance.proofs.dropped.Statement.{statement}
 use Rattle.search_advance.proofs.dropped.Tie as tie
 
-abbrev start : tie.After-own → tie.Start
+abbrev start : tie.After-own-1 → tie.Start
 start c = c.before.before.before.before.before.before
 
 few : (s : tie.Start) → length s.args.lens.now ≤ most_earlier
@@ -30,34 +30,34 @@ trying : (s : tie.Start) → Trying s.args.ask s.args.table.now s.args.area.now 
 trying s = record { searching = s.requires.0.searching; holding = s.requires.0.holding; among = s.requires.1; slots = s.requires.0.earlier.slots; formed = s.requires.0.earlier.formed }
 
 -- the overlaps, as the call left them
-abbrev own : tie.After-of-candidate → List ℕ
-own c = take (length (start c.before).args.lens.now - 0) c.of-candidate.new.1.1.1.1.1.1.0
+abbrev own : tie.After-of_candidate → List ℕ
+own c = take (length c.args.lens.now - 0) c.of_candidate.new.own
 
-own_is : (c : tie.After-of-candidate) → let s = start c.before in
+own_is : (c : tie.After-of_candidate) → let s = start c.before in
     own c ≡ overlaps_of (net_for s.args.ask s.args.table.now []) (earlier_of s.args.ask s.args.area.now s.args.lens.now) (chain_of s.args.labels.now s.args.c)
-own_is c = ap (λ k. take k c.of-candidate.new.1.1.1.1.1.1.0) (sub-zero (length (start c.before).args.lens.now)) ∙ c.of-candidate.ensures.1
+own_is c = ap (λ k. take k c.of_candidate.new.own) (sub-zero (length c.args.lens.now)) ∙ c.of_candidate.ensures.1
 
-of-candidate-requires : tie.Need-of-candidate-requires
-of-candidate-requires c κs = let s = start c in (trying s, s.pre.0.filter, few s)
+of-candidate-requires : tie.Need-of_candidate-requires
+of-candidate-requires c κs = let s = start c in (trying s, s.requires.0.filter, few s)
 
 passes-requires : tie.Need-passes-requires
 passes-requires c κs =
-    let o = c.before.before.before.before in
+    let o = c.before.before.before in
     let s = start o.before in (
-      measured (trying s) s.pre.0.earlier (own o) (own_is o),
-      subst (λ r. Listed s.args.ask r s.args.area.now s.args.labels.now s.args.n) (sym (own-many (trying s) s.pre.0.earlier (own o) (own_is o))) s.pre.0.listed,
-      λ e. omega (arith, s.pre.1.label-below),
-      rw c.before.before.to-of.ensures (all-good s.args.ask.nodes s.args.table.now s.pre.0.searching.accepted.no-fault s.args.c.arc s.pre.1.arc-below).end,
+      measured (trying s) s.requires.0.earlier (own o) (own_is o),
+      subst (λ r. Listed s.args.ask r s.args.area.now s.args.labels.now s.args.n) (sym (own-many (trying s) s.requires.0.earlier (own o) (own_is o))) s.requires.0.listed,
+      λ e. omega (arith, s.requires.1.label-below),
+      rw c.to_of-end.ensures (all-good s.args.ask.nodes s.args.table.now s.requires.0.searching.accepted.no-fault s.args.c.arc s.requires.1.arc-below).end,
     )
 
 returns : tie.Need-returns
 returns c =
-    let t = c.before.before.before in
-    let o = t.before.before in
+    let t = c in
+    let o = t.before.before.before.before in
     let s = start o.before in
     ap not
-    (c.passes.ensures ∙ ap (λ v. passes_at s.args.ask s.args.lens.now s.args.labels.now s.args.n v (own o)) t.to-of.ensures
-    ∙ passes-here (trying s) s.pre.0.earlier (own o) (own_is o) [])
+    (c.passes.ensures ∙ ap (λ v. passes_at s.args.ask s.args.lens.now s.args.labels.now s.args.n v (own o)) t.to_of-end.ensures
+    ∙ passes-here (trying s) s.requires.0.earlier (own o) (own_is o) [])
 
 pub dropped_spec : {M : Type 1} → statement M
 dropped_spec =
@@ -68,6 +68,6 @@ dropped_spec =
     (λ c κs. search rules)
     (λ c. search rules)
     (λ c. search rules)
-    (λ c. omega (arith, few (start c.before.before.before.before)))
+    (λ c. omega (arith, few (start c.before.before.before)))
     passes-requires
     returns)

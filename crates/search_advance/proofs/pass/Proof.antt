@@ -17,32 +17,32 @@ use Rattle.search_advance.proofs.OwnLaws.{walk_start, walk_end, run-leaves}
 use Rattle.search_advance.proofs.pass.Statement.{statement}
 use Rattle.search_advance.proofs.pass.Tie as tie
 
-abbrev invariant-loop : tie.invariant-loop
-invariant-loop table closed ask area lens marks labels x v first count best₀ arc₀ best arc =
+abbrev invariant-loop-arc : tie.invariant-loop-arc
+invariant-loop-arc table closed ask area lens marks labels x v first count best₀ arc₀ best arc =
     (run_start table v ≤ arc) × (arc ≤ run_start table (v + 1)) × AtCursor ask table closed area lens labels x arc best
 
-abbrev decreases-loop : tie.decreases-loop
-decreases-loop table closed ask area lens marks labels x v first count best₀ arc₀ best arc = count - arc
+abbrev decreases-loop-arc : tie.decreases-loop-arc
+decreases-loop-arc table closed ask area lens marks labels x v first count best₀ arc₀ best arc = count - arc
 
-abbrev start : tie.At-loop invariant-loop decreases-loop → tie.Start invariant-loop decreases-loop
+abbrev start : tie.At-loop-arc invariant-loop-arc decreases-loop-arc → tie.Start invariant-loop-arc decreases-loop-arc
 start a = a.before.before.before.before.before.before.before
 
-ok : (s : tie.Start invariant-loop decreases-loop) → table_fault s.args.ask.nodes s.args.table.now ≡ good
+ok : (s : tie.Start invariant-loop-arc decreases-loop-arc) → table_fault s.args.ask.nodes s.args.table.now ≡ good
 ok s = s.requires.0.searching.accepted.no-fault
 
-abbrev chain : tie.Start invariant-loop decreases-loop → List ℕ
+abbrev chain : tie.Start invariant-loop-arc decreases-loop-arc → List ℕ
 chain s = chain_at s.args.labels.now s.args.x.label
 
-abbrev taken : tie.Start invariant-loop decreases-loop → List (List ℕ)
+abbrev taken : tie.Start invariant-loop-arc decreases-loop-arc → List (List ℕ)
 taken s = chains_in s.args.labels.now s.args.x.n
 
-abbrev earlier : tie.Start invariant-loop decreases-loop → List (List ℕ)
+abbrev earlier : tie.Start invariant-loop-arc decreases-loop-arc → List (List ℕ)
 earlier s = earlier_of s.args.ask s.args.area.now s.args.lens.now
 
-abbrev last : tie.Start invariant-loop decreases-loop → List ℕ
+abbrev last : tie.Start invariant-loop-arc decreases-loop-arc → List ℕ
 last s = own_last (chain s) s.args.x.from
 
-loop-holds : tie.Need-loop-init invariant-loop decreases-loop
+loop-holds : tie.Need-loop-arc-init invariant-loop-arc decreases-loop-arc
 loop-holds c =
     let s = c.before.before.before.before.before.before in
     let e = s.requires.4 in (
@@ -52,56 +52,56 @@ loop-holds c =
     )
 
 -- the record starts at another node
-returns : tie.Need-returns invariant-loop decreases-loop
+returns : tie.Need-returns-then-from_of-v invariant-loop-arc decreases-loop-arc
 returns c =
-    let f = c.before in
-    let a = f.before.before in
+    let f = c in
+    let a = f.before.before.before in
     let s = start a in
-    walk_end s.args.ask s.args.table.now s.args.closed.now s.args.labels.now (earlier s) (taken s) (last s) (chain s) (ok s) s.args.v s.pre.3 a.loop.arc (records s.args.table.now)
-    (arc_in a.loop.best) a.loop.invariant.2
-    (run-over s.args.ask.nodes s.args.table.now s.args.closed.now (ok s) s.args.v a.loop.arc a.loop.invariant.0
-    (λ z. c.if1.true (f.from-of.ensures ∙ z)))
+    walk_end s.args.ask s.args.table.now s.args.closed.now s.args.labels.now (earlier s) (taken s) (last s) (chain s) (ok s) s.args.v s.requires.3 a.loop-arc.arc (records s.args.table.now)
+    (arc_in a.loop-arc.best) a.loop-arc.invariant.2
+    (run-over s.args.ask.nodes s.args.table.now s.args.closed.now (ok s) s.args.v a.loop-arc.arc a.loop-arc.invariant.0
+    (λ z. c.if-from_of-v.true (f.from_of.ensures ∙ z)))
 
 -- it starts at v
-starts : (e : tie.Else1 invariant-loop decreases-loop) → let a = e.before.before.before in from_at (start a).args.table.now a.loop.arc ≡ (start a).args.v
-starts e = sym e.before.from-of.ensures ∙ e.if1.false
+starts : (e : tie.Else-from_of-v invariant-loop-arc decreases-loop-arc) → let a = e in from_at a.args.table.now a.loop-arc.arc ≡ a.args.v
+starts e = sym e.from_of.ensures ∙ e.if-from_of-v.false
 
-look-requires : tie.Need-look-requires invariant-loop decreases-loop
+look-requires : tie.Need-look-best-requires invariant-loop-arc decreases-loop-arc
 look-requires c κs =
-    let l = c.before.before in
-    let a = l.before in
+    let l = c in
+    let a = l.before.before.before in
     let s = start a in (
-      s.pre.0,
-      s.pre.1,
-      s.pre.2,
-      run-leaves s.args.ask s.args.table.now s.args.closed.now s.args.labels.now (earlier s) (taken s) (last s) (chain s) (ok s) s.args.v s.pre.3 a.loop.arc l.loop-test.true (starts c),
-      a.loop.invariant.2,
+      s.requires.0,
+      s.requires.1,
+      s.requires.2,
+      run-leaves s.args.ask s.args.table.now s.args.closed.now s.args.labels.now (earlier s) (taken s) (last s) (chain s) (ok s) s.args.v s.requires.3 a.loop-arc.arc l.loop-arc-test.true (starts c),
+      a.loop-arc.invariant.2,
     )
 
-loop-again : tie.Need-loop-preserved invariant-loop decreases-loop
+loop-again : tie.Need-loop-arc-preserved invariant-loop-arc decreases-loop-arc
 loop-again c =
     let e = c.before in
-    let l = e.before.before in
-    let a = l.before in
+    let l = e in
+    let a = l.before.before.before in
     let s = start a in (
-      omega (arith, a.loop.invariant.0),
-      omega (arith, (run-has s.args.ask.nodes s.args.table.now (ok s) s.args.v a.loop.arc l.loop-test.true (starts e)).1),
-      c.look.ensures,
+      omega (arith, a.loop-arc.invariant.0),
+      omega (arith, (run-has s.args.ask.nodes s.args.table.now (ok s) s.args.v a.loop-arc.arc l.loop-arc-test.true (starts e)).1),
+      c.look-best.ensures,
     )
 
-returns-2 : tie.Need-returns-2 invariant-loop decreases-loop
+returns-2 : tie.Need-returns invariant-loop-arc decreases-loop-arc
 returns-2 c =
     let a = c.before in
     let s = start a in
-    walk_end s.args.ask s.args.table.now s.args.closed.now s.args.labels.now (earlier s) (taken s) (last s) (chain s) (ok s) s.args.v s.pre.3 a.loop.arc (records s.args.table.now)
-    (arc_in a.loop.best) a.loop.invariant.2 (omega (arith, run-le s.args.table.now (s.args.v + 1)))
+    walk_end s.args.ask s.args.table.now s.args.closed.now s.args.labels.now (earlier s) (taken s) (last s) (chain s) (ok s) s.args.v s.requires.3 a.loop-arc.arc (records s.args.table.now)
+    (arc_in a.loop-arc.best) a.loop-arc.invariant.2 (omega (arith, run-le s.args.table.now (s.args.v + 1)))
 
 pub pass_spec : {M : Type 1} → statement M
 pass_spec =
     tie.close
     (tie.spec
-    invariant-loop
-    decreases-loop
+    invariant-loop-arc
+    decreases-loop-arc
     loop-holds
     (λ c κs. search rules)
     returns

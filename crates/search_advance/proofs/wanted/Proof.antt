@@ -9,36 +9,36 @@ use Rattle.search_advance.proofs.OwnLaws.{after_none, after-some, before-none, b
 use Rattle.search_advance.proofs.wanted.Statement.{statement}
 use Rattle.search_advance.proofs.wanted.Tie as tie
 
-abbrev start : tie.Joined1 → tie.Start
+abbrev start : tie.Joined-from-ne-NO_ARC → tie.Start
 start c = c.before.before
 
-after : (c : tie.Joined1) → after_arc (arcs_of (start c).args.table.now) (start c).args.from (start c).args.arc ≡ true
+after : (c : tie.Joined-from-ne-NO_ARC) → after_arc (arcs_of c.args.table.now) c.args.from c.args.arc ≡ true
 after c =
-    ⊎_elim (λ w. after-some _ _ _ w.0.taken ∙ sym w.1.ensures ∙ not-false _ w.2.left) (λ w. after_none _ _ _ w.left) c.if1.branch
+    ⊎_elim (λ w. after-some _ _ _ w.if-from-ne-NO_ARC.true ∙ sym w.arc_first.ensures ∙ w.if-not-arc_first.false) (λ w. after_none _ _ _ w.if-from-ne-NO_ARC.false) c.if-from-ne-NO_ARC.branch-raw
 
-arc-first-requires : tie.Need-arc-first-requires
-arc-first-requires c κs = let s = c.before.before in (s.requires.0 c.if1.true, s.requires.2)
+arc-first-requires : tie.Need-arc_first-requires
+arc-first-requires c κs = let s = c in (s.requires.0 c.if-from-ne-NO_ARC.true, s.requires.2)
 
-returns : tie.Need-returns
+returns : tie.Need-returns-then-not-arc_first
 returns c =
-    let t = c.before.before in
-    sym (wanted-not-after _ _ _ _ (after-some _ _ _ t.if1.true ∙ sym c.before.arc-first.ensures ∙ not-true _ c.if2.true))
+    let t = c in
+    sym (wanted-not-after _ _ _ _ (after-some _ _ _ t.if-from-ne-NO_ARC.true ∙ sym c.arc_first.ensures ∙ c.if-not-arc_first.true))
 
-arc-first-requires-2 : tie.Need-arc-first-requires-2
-arc-first-requires-2 c κs = let s = start c.before in (s.pre.2, s.pre.1 c.if3.true)
+arc-first-requires-2 : tie.Need-arc_first-requires-then-best-ne-NO_ARC
+arc-first-requires-2 c κs = let s = start c.before in (s.requires.2, s.requires.1 c.if-best-ne-NO_ARC.true)
 
-returns-2 : tie.Need-returns-2
+returns-2 : tie.Need-returns-then-not-arc_first-2
 returns-2 c =
-    let t = c.before.before in
-    sym (wanted-not-before _ _ _ _ (after t.before) (before-some _ _ _ t.if3.true ∙ sym c.before.arc-first2.ensures ∙ not-true _ c.if4.true))
+    let t = c in
+    sym (wanted-not-before _ _ _ _ (after t.before.before.before) (before-some _ _ _ t.if-best-ne-NO_ARC.true ∙ sym c.arc_first-then-best-ne-NO_ARC.ensures ∙ c.if-not-arc_first-2.true))
 
-returns-3 : tie.Need-returns-3
+returns-3 : tie.Need-returns-else-not-arc_first-2
 returns-3 c =
-    let t = c.before.before in
-    sym (wanted-both _ _ _ _ (after t.before) (before-some _ _ _ t.if3.true ∙ sym c.before.arc-first2.ensures ∙ not-false _ c.if4.false))
+    let t = c in
+    sym (wanted-both _ _ _ _ (after t.before.before.before) (before-some _ _ _ t.if-best-ne-NO_ARC.true ∙ sym c.arc_first-then-best-ne-NO_ARC.ensures ∙ c.if-not-arc_first-2.false))
 
-returns-4 : tie.Need-returns-4
-returns-4 c = sym (wanted-both _ _ _ _ (after c.before) (before-none _ _ _ c.if3.false))
+returns-4 : tie.Need-returns-else-best-ne-NO_ARC
+returns-4 c = sym (wanted-both _ _ _ _ (after c.before) (before-none _ _ _ c.if-best-ne-NO_ARC.false))
 
 pub wanted_spec : {M : Type 1} → statement M
 wanted_spec =

@@ -9,34 +9,34 @@ use Rattle.search_clear.proofs.ClearLaws.{clear-more, clear_none, length-clear}
 use Rattle.search_clear.proofs.clear_work.Statement.{statement}
 use Rattle.search_clear.proofs.clear_work.Tie as tie
 
-abbrev invariant-loop : tie.invariant-loop
-invariant-loop labels₀ n i₀ labels i = (i ≤ n) × (length labels ≡ length labels₀) × (labels ≡ clear_work i labels₀)
+abbrev invariant-loop-i : tie.invariant-loop-i
+invariant-loop-i labels₀ n i₀ labels i = (i ≤ n) × (length labels ≡ length labels₀) × (labels ≡ clear_work i labels₀)
 
-abbrev decreases-loop : tie.decreases-loop
-decreases-loop labels₀ n i₀ labels i = n - i
+abbrev decreases-loop-i : tie.decreases-loop-i
+decreases-loop-i labels₀ n i₀ labels i = n - i
 
-loop-again : tie.Need-loop-preserved invariant-loop decreases-loop
+loop-again : tie.Need-loop-i-preserved invariant-loop-i decreases-loop-i
 loop-again c =
-    let w = c.before.before in
-    let v = w.before.before.before.before in
-    let u = v.before.before.before.before in
-    let a = u.before.before.before in
-    let l = a.before.before.args.labels.now in
-    let e = clear-more a.loop.i l a.loop.labels _ _ _ a.loop.invariant.2 u.write32.ensures v.write64.ensures w.write642.ensures in
+    let w = c in
+    let v = w in
+    let u = v in
+    let a = u in
+    let l = a.args.labels.now in
+    let e = clear-more a.loop-i.i l a.loop-i.labels _ _ _ a.loop-i.invariant.2 u.write32.ensures v.write64.ensures w.write64-in-loop-i.ensures in
     (search rules, ap length e ∙ length-clear _ l, e)
 
-returns : tie.Need-returns invariant-loop decreases-loop
+returns : tie.Need-returns invariant-loop-i decreases-loop-i
 returns c =
-    let a = c.before in
-    let e : a.loop.i ≡ a.before.before.args.n = omega arith in
-    a.loop.invariant.2 ∙ ap (λ z. clear_work z a.before.before.args.labels.now) e
+    let a = c in
+    let e : a.loop-i.i ≡ a.args.n = omega arith in
+    a.loop-i.invariant.2 ∙ ap (λ z. clear_work z a.args.labels.now) e
 
 pub clear_work_spec : {M : Type 1} → statement M
 clear_work_spec =
     tie.close
     (tie.spec
-    invariant-loop
-    decreases-loop
+    invariant-loop-i
+    decreases-loop-i
     (λ c. (omega arith, refl, clear_none _))
     (λ c. search rules)
     (λ c. search rules)
@@ -48,5 +48,5 @@ clear_work_spec =
     (λ c. search rules)
     (λ c. search rules)
     loop-again
-    (λ c. c.before.loop.invariant.1)
+    (λ c. c.loop-i.invariant.1)
     returns)

@@ -14,28 +14,28 @@ use Rattle.search_driven.proofs.DrivenLaws.{driven-slot}
 use Rattle.search_driven.proofs.drives.Statement.{statement}
 use Rattle.search_driven.proofs.drives.Tie as tie
 
-abbrev start : tie.After-road-of → tie.Start
+abbrev start : tie.After-road_of-number → tie.Start
 start k = k.before.before.before
 
-few : (k : tie.After-road-of) → records (start k).args.table.now ≤ most_arcs
+few : (k : tie.After-road_of-number) → records (start k).args.table.now ≤ most_arcs
 few k = (good-size _ _ (start k).requires.0.no-fault).3
 
-number_is : (k : tie.After-road-of) → k.road-of.result ≡ road (roads_of (start k).args.table.now) (start k).args.arc
-number_is k = k.road-of.ensures ∙ sym (road-is (start k).args.table.now (start k).args.arc (start k).requires.1)
+number_is : (k : tie.After-road_of-number) → k.road_of-number.result ≡ road (roads_of (start k).args.table.now) (start k).args.arc
+number_is k = k.road_of-number.ensures ∙ sym (road-is (start k).args.table.now (start k).args.arc (start k).requires.1)
 
-returns : tie.Need-returns
+returns : tie.Need-returns-then-number-eq0
 returns c =
     let k = c.before.before in
     let s = start k in
-    c.Stands-on.ensures
-    ∙ sym (any-itself (roads_of s.args.table.now) s.args.arc (sym (number_is k) ∙ c.before.if1.true) s.args.slot.now)
-    ∙ sym (driven-slot s.args.ask.nodes s.args.table.now s.args.slot.now s.args.arc (few k) s.pre.1)
+    c.stands_on.ensures
+    ∙ sym (any-itself (roads_of s.args.table.now) s.args.arc (sym (number_is k) ∙ c.if-number-eq0.true) s.args.slot.now)
+    ∙ sym (driven-slot s.args.ask.nodes s.args.table.now s.args.slot.now s.args.arc (few k) s.requires.1)
 
-returns-2 : tie.Need-returns-2
+returns-2 : tie.Need-returns
 returns-2 c =
     let k = c.before.before in
     let s = start k in
-    c.drives-road.ensures ∙ sym (driven-slot s.args.ask.nodes s.args.table.now s.args.slot.now s.args.arc (few k) s.pre.1)
+    c.drives_road.ensures ∙ sym (driven-slot s.args.ask.nodes s.args.table.now s.args.slot.now s.args.arc (few k) s.requires.1)
 
 pub drives_spec : {M : Type 1} → statement M
 drives_spec =

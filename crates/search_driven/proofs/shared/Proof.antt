@@ -13,18 +13,18 @@ use Rattle.search_driven.proofs.shared.Tie as tie
 few : (c : tie.Start) → records c.args.table.now ≤ most_arcs
 few c = (good-size _ _ c.requires.0.no-fault).3
 
-returns : tie.Need-returns
+returns : tie.Need-returns-then-drives
 returns c =
-    let k = c.before.before in
-    let s = k.before.before.before in
-    c.length-of.ensures
-    ∙ sym (shared-some s.args.ask.nodes s.args.table.now s.args.slot.now s.args.arc (few s) s.requires.1 (sym k.drives.ensures ∙ c.before.if1.true))
+    let k = c in
+    let s = k.before.before.before.before.before in
+    c.length_of.ensures
+    ∙ sym (shared-some s.args.ask.nodes s.args.table.now s.args.slot.now s.args.arc (few s) s.requires.1 (sym k.drives.ensures ∙ c.if-drives.true))
 
-returns-2 : tie.Need-returns-2
+returns-2 : tie.Need-returns
 returns-2 c =
-    let k = c.before in
-    let s = k.before.before.before in
-    sym (shared-none s.args.ask.nodes s.args.table.now s.args.slot.now s.args.arc (few s) s.requires.1 (sym k.drives.ensures ∙ c.if1.false))
+    let k = c in
+    let s = k.before.before.before.before in
+    sym (shared-none s.args.ask.nodes s.args.table.now s.args.slot.now s.args.arc (few s) s.requires.1 (sym k.drives.ensures ∙ c.if-drives.false))
 
 pub shared_spec : {M : Type 1} → statement M
 shared_spec =

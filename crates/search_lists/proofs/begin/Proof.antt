@@ -11,11 +11,11 @@ use Rattle.search_lists.proofs.begin.Tie as tie
 
 returns : tie.Need-returns
 returns c =
-    let p = c.before.before in
-    let s = p.before.before.before.before in
+    let p = c in
+    let s = p in
     let l = s.args.labels.now in (
-      subst (Only 30 2 1 l) (sym p.put-link.ensures) (only-put 30 2 1 l 0 0 refl (omega arith)),
-      subst (λ m. Listed s.args.ask s.args.r s.args.area.now m 1) (sym p.put-link.ensures)
+      subst (Only 30 2 1 l) (sym p.put_link.ensures) (only-put 30 2 1 l 0 0 refl (omega arith)),
+      subst (λ m. Listed s.args.ask s.args.r s.args.area.now m 1) (sym p.put_link.ensures)
           (listed-first s.args.ask s.args.r s.args.area.now l s.requires.0 s.requires.1 s.requires.2 s.requires.3),
     )
 

@@ -15,52 +15,52 @@ use Rattle.search_lists.proofs.RunLaws.{head-run}
 use Rattle.search_lists.proofs.start.Statement.{statement}
 use Rattle.search_lists.proofs.start.Tie as tie
 
-abbrev start : tie.After-head → tie.Start
-start c = c.before.before.before.before.before.before.before.before
+abbrev start : tie.After-head-h → tie.Start
+start c = c.before.before.before.before.before.before.before
 
-abbrev node : tie.After-head → ℕ
+abbrev node : tie.After-head-h → ℕ
 node c = end_at (start c).args.labels.now (start c).args.n
 
-head-is : (c : tie.After-head) → let s = start c in c.head.result ≡ head_at s.args.ask s.args.r s.args.area.now (node c)
+head-is : (c : tie.After-head-h) → let s = start c in c.head-h.result ≡ head_at s.args.ask s.args.r s.args.area.now (node c)
 head-is c =
     let s = start c in
-    let p = c.before.before in
-    c.head.ensures
+    let p = c in
+    c.head-h.ensures
     ∙ ap (λ x. head_of (get_or s.args.area.now x 0))
-    (p.place.ensures.0 ∙ ap (λ v. s.args.r * width s.args.ask + place_of s.args.ask.s v) p.before.end.ensures)
+    (p.place-place.ensures.0 ∙ ap (λ v. s.args.r * width s.args.ask + place_of s.args.ask.s v) p.end-v.ensures)
 
-cast-put-run : tie.Need-overflow-cast-put-run
+cast-put-run : tie.Need-overflow_cast-run_start
 cast-put-run c =
     let s = start c.before.before.before in
-    omega (arith, c.run-start.ensures, run-le s.args.table.now c.before.before.before.before.before.before.end.result, (good-size s.args.ask.nodes s.args.table.now s.pre.0).3)
+    omega (arith, c.run_start.ensures, run-le s.args.table.now c.end-v.result, (good-size s.args.ask.nodes s.args.table.now s.requires.0).3)
 
-returns : tie.Need-returns
+returns : tie.Need-returns-then-h-eq0
 returns c =
-    let p = c.before.before in
-    let f = p.before in
-    let h = f.before.before.before in
+    let p = c in
+    let f = p in
+    let h = f.before.before.before.before.before.before in
     let s = start h in
-    p.put-run.ensures ∙ ap (put_run s.args.labels.now s.args.n) (f.run-start.ensures ∙ ap (run_start s.args.table.now) h.before.before.before.end.ensures)
+    p.put_run.ensures ∙ ap (put_run s.args.labels.now s.args.n) (f.run_start.ensures ∙ ap (run_start s.args.table.now) h.end-v.ensures)
 
 -- the head is a label at the node
-same : (e : tie.Else1) → let h = e.before in let s = start h in
-    (h.head.result - 1 < s.args.n) × (run_at s.args.labels.now (h.head.result - 1) ≡ run_start s.args.table.now (node h))
+same : (e : tie.Else-h-eq0) → let h = e.before in let s = start h in
+    (h.head-h.result - 1 < s.args.n) × (run_at s.args.labels.now (h.head-h.result - 1) ≡ run_start s.args.table.now (node h))
 same e =
     let h = e.before in
     let s = start h in
     subst (λ k. (k - 1 < s.args.n) × (run_at s.args.labels.now (k - 1) ≡ run_start s.args.table.now (node h))) (sym (head-is h))
-    (head-run s.args.ask s.args.table.now s.args.area.now s.args.labels.now s.args.r s.args.n (node h) s.pre.1 s.pre.2 s.pre.4 s.pre.5 (λ z. e.if1.false (head-is h ∙ z)))
+    (head-run s.args.ask s.args.table.now s.args.area.now s.args.labels.now s.args.r s.args.n (node h) s.requires.1 s.requires.2 s.requires.4 s.requires.5 (λ z. e.if-h-eq0.false (head-is h ∙ z)))
 
-run-requires : tie.Need-run-requires
-run-requires c κs = let e = c.before in omega (arith, (same e).0, (start e.before).requires.3)
+run-requires : tie.Need-run-start-requires
+run-requires c κs = let e = c in omega (arith, (same e).0, (start e.before).requires.3)
 
-returns-2 : tie.Need-returns-2
+returns-2 : tie.Need-returns
 returns-2 c =
-    let p = c.before.before in
-    let f = p.before.before in
-    let e = f.before.before in
+    let p = c in
+    let f = p in
+    let e = f.before.before.before.before.before in
     let s = start e.before in
-    p.put-run2.ensures ∙ ap (put_run s.args.labels.now s.args.n) (f.run.ensures ∙ (same e).1)
+    p.put_run-2.ensures ∙ ap (put_run s.args.labels.now s.args.n) (f.run-start.ensures ∙ (same e).1)
 
 pub start_spec : {M : Type 1} → statement M
 start_spec =

@@ -7,24 +7,24 @@ use Rattle.second.proofs.ComingLaws.{coming-le, coming-order}
 use Rattle.second.proofs.coming_of.Statement.{statement}
 use Rattle.second.proofs.coming_of.Tie as tie
 
-abbrev start : tie.After-coming-start2 → tie.Start
+abbrev start : tie.After-coming_start-to → tie.Start
 start c = c.before.before.before.before
 
-mul-from : tie.Need-overflow-mul-from
+mul-from : tie.Need-overflow_mul-from
 mul-from c =
     let s = c.before.before.before in
     omega (arith, coming-le s.args.second.now s.args.v)
 
-mul-to : tie.Need-overflow-mul-to
+mul-to : tie.Need-overflow_mul-to
 mul-to c = let s = start c in omega (arith, coming-le s.args.second.now (s.args.v + 1))
 
-sub-result : tie.Need-overflow-sub-result
+sub-result : tie.Need-slice_bounds-result-count
 sub-result c = let s = start c in omega (arith, coming-order s.args.second.now s.args.v)
 
-part-result-start : tie.Need-slice-bounds-result-start
+part-result-start : tie.Need-slice_bounds-result-start
 part-result-start c = let s = start c in omega (arith, coming-order s.args.second.now s.args.v)
 
-part-result-end : tie.Need-slice-bounds-result-end
+part-result-end : tie.Need-slice_bounds-result-end
 part-result-end c = let s = start c in omega (arith, coming-le s.args.second.now (s.args.v + 1))
 
 pub coming_of_spec : {M : Type 1} → statement M

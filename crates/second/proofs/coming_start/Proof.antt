@@ -9,31 +9,31 @@ use Rattle.second.proofs.ComingLaws.{coming-le, coming-to, coming-past}
 use Rattle.second.proofs.coming_start.Statement.{statement}
 use Rattle.second.proofs.coming_start.Tie as tie
 
-abbrev invariant-loop : tie.invariant-loop
-invariant-loop t second nodes v from₀ to₀ from to = (from ≤ coming_start second v) × (coming_start second v ≤ to) × (to ≤ records second)
+abbrev invariant-loop-from : tie.invariant-loop-from
+invariant-loop-from t second nodes v from₀ to₀ from to = (from ≤ coming_start second v) × (coming_start second v ≤ to) × (to ≤ records second)
 
-abbrev decreases-loop : tie.decreases-loop
-decreases-loop t second nodes v from₀ to₀ from to = to - from
+abbrev decreases-loop-from : tie.decreases-loop-from
+decreases-loop-from t second nodes v from₀ to₀ from to = to - from
 
-loop-again : tie.Need-loop-preserved invariant-loop decreases-loop
+loop-again : tie.Need-loop-from-preserved-then-to_of-v invariant-loop-from decreases-loop-from
 loop-again c =
     let k = c.before.before.before in
     let s = k.before.before.before in
-    let mid = k.loop.from + (k.loop.to - k.loop.from) / 2 in
+    let mid = k.loop-from.from + (k.loop-from.to - k.loop-from.from) / 2 in
     omega (arith, coming-past s.args.nodes s.args.table.now s.requires.0 s.args.second.now s.requires.1 s.args.v mid (omega arith) (omega arith))
 
-loop-again-2 : tie.Need-loop-preserved-2 invariant-loop decreases-loop
+loop-again-2 : tie.Need-loop-from-preserved invariant-loop-from decreases-loop-from
 loop-again-2 c =
     let k = c.before.before.before in
     let s = k.before.before.before in
-    omega (arith, coming-to s.args.second.now s.args.v (k.loop.from + (k.loop.to - k.loop.from) / 2) (omega arith))
+    omega (arith, coming-to s.args.second.now s.args.v (k.loop-from.from + (k.loop-from.to - k.loop-from.from) / 2) (omega arith))
 
 pub coming_start_spec : {M : Type 1} → statement M
 coming_start_spec =
     tie.close
     (tie.spec
-    invariant-loop
-    decreases-loop
+    invariant-loop-from
+    decreases-loop-from
     (λ c. omega (arith, coming-le c.before.before.args.second.now c.before.before.args.v))
     (λ c. search rules)
     (λ c. search rules)

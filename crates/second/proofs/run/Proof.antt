@@ -9,39 +9,39 @@ use Rattle.second.proofs.LookupLaws.{run-part, run-faulty, run_past, run-wrong}
 use Rattle.second.proofs.run.Statement.{statement}
 use Rattle.second.proofs.run.Tie as tie
 
-abbrev start : tie.After-check → tie.Start
+abbrev start : tie.After-check-told → tie.Start
 start c = c.before.before.before.before
 
-no-fault : (c : tie.Else2) → table_fault (start c.before.before).args.nodes (start c.before.before).args.table.now ≡ good
-no-fault c = let k = c.before.before in told-good _ _ (sym (ap (λ x. x.outcome) k.check.ensures) ∙ c.if2.false)
+no-fault : (c : tie.Else-told-ne-FOUND) → table_fault (start c.before.before).args.nodes (start c.before.before).args.table.now ≡ good
+no-fault c = let k = c.before.before in told-good _ _ (sym (ap (λ x. x.outcome) k.check-told.ensures) ∙ c.if-told-ne-FOUND.false)
 
-right : (c : tie.Else3)
+right : (c : tie.Else-wrong)
     → wrong_second (start c.before.before.before.before).args.nodes (start c.before.before.before.before).args.table.now (start c.before.before.before.before).args.second.now ≡ false
-right c = sym c.before.wrong.ensures ∙ c.if3.false
+right c = sym c.before.wrong.ensures ∙ c.if-wrong.false
 
-returns : tie.Need-returns
+returns : tie.Need-returns-then-nodes-v
 returns c =
     let s = c.before.before.before.before in
-    sym (run_past s.args.nodes s.args.table.now s.args.second.now s.args.direction s.args.v c.before.if1.true)
+    sym (run_past s.args.nodes s.args.table.now s.args.second.now s.args.direction s.args.v c.before.if-nodes-v.true)
 
-returns-2 : tie.Need-returns-2
+returns-2 : tie.Need-returns-then-told-ne-FOUND
 returns-2 c =
     let k = c.before.before.before in
     let s = start k in
-    sym (run-faulty s.args.nodes s.args.table.now s.args.second.now s.args.direction s.args.v (λ z. c.before.if2.true (ap (λ x. x.outcome) k.check.ensures ∙ z)))
+    sym (run-faulty s.args.nodes s.args.table.now s.args.second.now s.args.direction s.args.v (λ z. c.before.if-told-ne-FOUND.true (ap (λ x. x.outcome) k.check-told.ensures ∙ z)))
 
-returns-3 : tie.Need-returns-3
+returns-3 : tie.Need-returns-then-wrong
 returns-3 c =
     let k = c.before.before in
     let s = start k.before.before.before in
-    sym (run-wrong s.args.nodes s.args.table.now s.args.second.now s.args.direction s.args.v (sym k.wrong.ensures ∙ c.before.if3.true))
+    sym (run-wrong s.args.nodes s.args.table.now s.args.second.now s.args.direction s.args.v (sym k.wrong.ensures ∙ c.before.if-wrong.true))
 
-returns-4 : tie.Need-returns-4
+returns-4 : tie.Need-returns
 returns-4 c =
     let e = c.before in
     let k = e.before.before in
     let s = start k.before.before in
-    c.part_by.ensures ∙ sym (run-part s.args.nodes s.args.table.now s.args.second.now s.args.direction s.args.v (no-fault k) (right e) k.before.before.before.if1.false)
+    c.part_by.ensures ∙ sym (run-part s.args.nodes s.args.table.now s.args.second.now s.args.direction s.args.v (no-fault k) (right e) k.before.before.before.if-nodes-v.false)
 
 pub run_spec : {M : Type 1} → statement M
 run_spec =
@@ -61,5 +61,5 @@ run_spec =
     (λ c. search rules)
     (λ c. search rules)
     returns-3
-    (λ c κs. let k = c.before.before in (no-fault k, right c, k.before.before.before.if1.false))
+    (λ c κs. let k = c.before.before in (no-fault k, right c, k.before.before.before.if-nodes-v.false))
     returns-4)

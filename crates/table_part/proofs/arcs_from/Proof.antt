@@ -7,24 +7,24 @@ use Rattle.table_part.proofs.PartLaws.{part-run, part-faulty, part-past}
 use Rattle.table_part.proofs.arcs_from.Statement.{statement}
 use Rattle.table_part.proofs.arcs_from.Tie as tie
 
-abbrev start : tie.After-check → tie.Start
+abbrev start : tie.After-check-told → tie.Start
 start c = c.before.before.before
 
-no-fault : (c : tie.Else2) → table_fault (start c.before.before).args.nodes (start c.before.before).args.table.now ≡ good
-no-fault c = let k = c.before.before in told-good _ _ (sym (ap (λ x. x.outcome) k.check.ensures) ∙ c.if2.false)
+no-fault : (c : tie.Else-told-ne-FOUND) → table_fault (start c.before.before).args.nodes (start c.before.before).args.table.now ≡ good
+no-fault c = let k = c.before.before in told-good _ _ (sym (ap (λ x. x.outcome) k.check-told.ensures) ∙ c.if-told-ne-FOUND.false)
 
-returns-2 : tie.Need-returns-2
-returns-2 c = let k = c.before.before in sym (part-faulty _ _ _ (λ z. c.if2.true (ap (λ x. x.outcome) k.check.ensures ∙ z)))
+returns-2 : tie.Need-returns-then-told-ne-FOUND
+returns-2 c = let k = c.before.before in sym (part-faulty _ _ _ (λ z. c.if-told-ne-FOUND.true (ap (λ x. x.outcome) k.check-told.ensures ∙ z)))
 
-returns-3 : tie.Need-returns-3
-returns-3 c = c.run-part.ensures ∙ sym (part-run _ _ _ (no-fault c.before) c.before.before.before.before.if1.false)
+returns-3 : tie.Need-returns
+returns-3 c = c.run_part.ensures ∙ sym (part-run _ _ _ (no-fault c.before) c.before.before.before.before.if-nodes-v.false)
 
 pub arcs_from_spec : {M : Type 1} → statement M
 arcs_from_spec =
     tie.close
     (tie.spec
-    (λ c. sym (part-past _ _ _ c.if1.true))
+    (λ c. sym (part-past _ _ _ c.if-nodes-v.true))
     (λ c κs. search rules)
     returns-2
-    (λ c κs. (no-fault c, c.before.before.before.if1.false))
+    (λ c κs. (no-fault c, c.before.before.before.if-nodes-v.false))
     returns-3)

@@ -8,17 +8,17 @@ use Rattle.table_part.specs.Part.{coming_part}
 use Rattle.table_part.proofs.coming_part.Statement.{statement}
 use Rattle.table_part.proofs.coming_part.Tie as tie
 
-mul-from : tie.Need-overflow-mul-from
+mul-from : tie.Need-overflow_mul-from
 mul-from c =
     let s = c.before.before.before in
     omega (arith, coming-le s.args.second.now s.args.v)
 
-mul-to : tie.Need-overflow-mul-to
+mul-to : tie.Need-overflow_mul-to
 mul-to c =
     let s = c.before.before.before.before in
     omega (arith, coming-le s.args.second.now (s.args.v + 1))
 
-sub-t7 : tie.Need-overflow-sub-t7
+sub-t7 : tie.Need-overflow_sub-result
 sub-t7 c =
     let s = c.before.before.before.before in
     omega (arith, coming-order s.args.second.now s.args.v)

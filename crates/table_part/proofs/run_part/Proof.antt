@@ -8,17 +8,17 @@ use Rattle.table_part.specs.Part.{run_part}
 use Rattle.table_part.proofs.run_part.Statement.{statement}
 use Rattle.table_part.proofs.run_part.Tie as tie
 
-mul-place : tie.Need-overflow-mul-place
+mul-place : tie.Need-overflow_mul-place
 mul-place c =
     let s = c.before.before in
     omega (arith, run-le s.args.table.now s.args.v)
 
-mul-end : tie.Need-overflow-mul-end
+mul-end : tie.Need-overflow_mul-end
 mul-end c =
     let s = c.before.before.before in
     omega (arith, run-le s.args.table.now (s.args.v + 1))
 
-sub-t6 : tie.Need-overflow-sub-t6
+sub-t6 : tie.Need-overflow_sub-result
 sub-t6 c =
     let s = c.before.before.before in
     omega (arith, run-mono s.args.table.now s.args.v)

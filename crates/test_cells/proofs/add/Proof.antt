@@ -6,13 +6,13 @@ use Rattle.test_cells.proofs.PastLaws.{sum-small, sum-right, sum_left}
 use Rattle.test_cells.proofs.add.Statement.{statement}
 use Rattle.test_cells.proofs.add.Tie as tie
 
-returns : tie.Need-returns
+returns : tie.Need-returns-then-b-lt1099511627776
 returns c = sym (sum-small _ _ (omega arith) (omega arith))
 
-returns-2 : tie.Need-returns-2
+returns-2 : tie.Need-returns-else-b-lt1099511627776
 returns-2 c = sym (sum-right _ _ (omega arith) (omega arith))
 
-returns-3 : tie.Need-returns-3
+returns-3 : tie.Need-returns-else-a-lt1099511627776
 returns-3 c = sym (sum_left _ _ (omega arith))
 
 pub add_spec : {M : Type 1} → statement M

@@ -6,13 +6,13 @@ use Rattle.test_cells.proofs.PastLaws.{part_in, part-crossed, part-past}
 use Rattle.test_cells.proofs.between.Statement.{statement}
 use Rattle.test_cells.proofs.between.Tie as tie
 
-returns : tie.Need-returns
+returns : tie.Need-returns-then-e-i
 returns c = sym (part-crossed _ _ _ (omega arith))
 
-returns-2 : tie.Need-returns-2
+returns-2 : tie.Need-returns-then-s-e
 returns-2 c = sym (part-past _ _ _ (omega arith) (omega arith))
 
-returns-3 : tie.Need-returns-3
+returns-3 : tie.Need-returns
 returns-3 c = sym (part_in _ _ _ (omega arith) (omega arith))
 
 pub between_spec : {M : Type 1} → statement M

@@ -1,5 +1,4 @@
 -- `cells::place` meets its contract, which is that of its two calls.
-use native.Mathlib.Omega.{arith}
 use borrow.Author.Rules.{rules}
 use Rattle.test_cells.proofs.place.Statement.{statement}
 use Rattle.test_cells.proofs.place.Tie as tie

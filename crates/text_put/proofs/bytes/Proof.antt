@@ -10,21 +10,21 @@ use Rattle.text_put.proofs.AppendLaws.{front-none, front-more, front-all}
 use Rattle.text_put.proofs.bytes.Statement.{statement}
 use Rattle.text_put.proofs.bytes.Tie as tie
 
-abbrev invariant-loop : tie.invariant-loop
-invariant-loop out₀ at s i₀ out i = (i ≤ length s) × (length out ≡ length out₀) × Appended out₀ at (take i s) out (at + i)
+abbrev invariant-loop-i : tie.invariant-loop-i
+invariant-loop-i out₀ at s i₀ out i = (i ≤ length s) × (length out ≡ length out₀) × Appended out₀ at (take i s) out (at + i)
 
-abbrev decreases-loop : tie.decreases-loop
-decreases-loop out₀ at s i₀ out i = length s - i
+abbrev decreases-loop-i : tie.decreases-loop-i
+decreases-loop-i out₀ at s i₀ out i = length s - i
 
-loop-again : tie.Need-loop-preserved invariant-loop decreases-loop
-loop-again c = (search rules, search rules, front-more _ _ _ _ _ c.before.before.loop.invariant.2 (omega arith) (omega arith) (omega arith))
+loop-again : tie.Need-loop-i-preserved invariant-loop-i decreases-loop-i
+loop-again c = (search rules, search rules, front-more _ _ _ _ _ c.before.before.loop-i.invariant.2 (omega arith) (omega arith) (omega arith))
 
 pub bytes_spec : {M : Type 1} → statement M
 bytes_spec =
     tie.close
     (tie.spec
-    invariant-loop
-    decreases-loop
+    invariant-loop-i
+    decreases-loop-i
     (λ c. (search rules, search rules, front-none _ _ c.args.s.now))
     (λ c. search rules)
     (λ c. search rules)
@@ -34,4 +34,4 @@ bytes_spec =
     loop-again
     (λ c. search rules)
     (λ c. search rules)
-    (λ c. front-all _ _ _ _ _ c.before.loop.invariant.2 (omega arith)))
+    (λ c. front-all _ _ _ _ _ c.before.loop-i.invariant.2 (omega arith)))

@@ -16,7 +16,7 @@ returns c =
     appended-more _ _ (space ∷ []) _ _ (decimal s.args.v) _ _ (appended_one s.args.out.now s.args.at space (omega arith))
     (appended-by _ _ _ _ _ w.put.ensures) (omega arith)
 
-same_length : tie.Need-same-length
+same_length : tie.Need-shape_of-out
 same_length c =
     let s = c.before.before.before.before.before in
     appended-length _ _ (space ∷ decimal s.args.v) _ _ (returns c) (omega arith)

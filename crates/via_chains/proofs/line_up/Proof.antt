@@ -10,50 +10,50 @@ use Rattle.via_chains.proofs.CandidateLaws.{lined-none, lined-free, lined-more, 
 use Rattle.via_chains.proofs.line_up.Statement.{statement}
 use Rattle.via_chains.proofs.line_up.Tie as tie
 
-abbrev invariant-loop : tie.invariant-loop
-invariant-loop table closed room₀ n root₀ v₀ room root v = (v ≤ n) × Lined n v room₀ room root
+abbrev invariant-loop-v : tie.invariant-loop-v
+invariant-loop-v table closed room₀ n root₀ v₀ room root v = (v ≤ n) × Lined n v room₀ room root
 
-abbrev decreases-loop : tie.decreases-loop
-decreases-loop table closed room₀ n root₀ v₀ room root v = n - v
+abbrev decreases-loop-v : tie.decreases-loop-v
+decreases-loop-v table closed room₀ n root₀ v₀ room root v = n - v
 
-abbrev filled : tie.After-slice-known2 invariant-loop decreases-loop → tie.After-fill invariant-loop decreases-loop
+abbrev filled : tie.After-slice_known-2-1 invariant-loop-v decreases-loop-v → tie.After-fill invariant-loop-v decreases-loop-v
 filled c = c.before.before
 
-abbrev start : tie.After-slice-known2 invariant-loop decreases-loop → tie.Start invariant-loop decreases-loop
+abbrev start : tie.After-slice_known-2-1 invariant-loop-v decreases-loop-v → tie.Start invariant-loop-v decreases-loop-v
 start c = (filled c).before.before.before.before.before.before
 
-fill-requires : tie.Need-fill-requires invariant-loop decreases-loop
-fill-requires c κs = c.before.before.before.before.before.requires.1.roomy
+fill-requires : tie.Need-fill-requires invariant-loop-v decreases-loop-v
+fill-requires c κs = c.requires.1.roomy
 
-loop-holds : tie.Need-loop-init invariant-loop decreases-loop
+loop-holds : tie.Need-loop-v-init invariant-loop-v decreases-loop-v
 loop-holds c =
     let s = start c in
-    (omega arith, lined-none s.args.ask.nodes s.args.room.now (filled c).fill.new.0 (nodes-least s.pre.0) s.pre.1.roomy (filled c).fill.ensures)
+    (omega arith, lined-none s.args.ask.nodes s.args.room.now (filled c).fill.new.room (nodes-least s.requires.0) s.requires.1.roomy (filled c).fill.ensures)
 
-enter-requires : tie.Need-enter-requires invariant-loop decreases-loop
+enter-requires : tie.Need-enter-root-requires invariant-loop-v decreases-loop-v
 enter-requires c κs =
-    let a = c.before.before in
-    (a.loop.invariant.1.queue, c.before.loop-test.true, lined-free _ a.loop.v _ _ _ c.before.loop-test.true a.loop.invariant.1)
+    let a = c in
+    (a.loop-v.invariant.1.queue, c.loop-v-test.true, lined-free _ a.loop-v.v _ _ _ c.loop-v-test.true a.loop-v.invariant.1)
 
-loop-again : tie.Need-loop-preserved invariant-loop decreases-loop
+loop-again : tie.Need-loop-v-preserved invariant-loop-v decreases-loop-v
 loop-again c =
-    let e = c.before.before in
-    let i = e.before.before in
-    let a = i.before in
-    (omega (arith, i.loop-test.true), lined-more _ a.loop.v _ _ _ _ _ i.loop-test.true a.loop.invariant.1 e.enter.ensures)
+    let e = c in
+    let i = e in
+    let a = i in
+    (omega (arith, i.loop-v-test.true), lined-more _ a.loop-v.v _ _ _ _ _ i.loop-v-test.true a.loop-v.invariant.1 e.enter-root.ensures)
 
-returns : tie.Need-returns invariant-loop decreases-loop
+returns : tie.Need-returns invariant-loop-v decreases-loop-v
 returns c =
-    let a = c.before in
-    let f = filled a.before in
-    (within-trans f.fill.ensures.within a.loop.invariant.1.within, a.loop.invariant.1.queue, lined-all _ a.loop.v _ _ _ _ (omega (arith, c.loop-test.false)) f.fill.ensures a.loop.invariant.1)
+    let a = c in
+    let f = filled a.before.before in
+    (within-trans f.fill.ensures.within a.loop-v.invariant.1.within, a.loop-v.invariant.1.queue, lined-all _ a.loop-v.v _ _ _ _ (omega (arith, c.loop-v-test.false)) f.fill.ensures a.loop-v.invariant.1)
 
 pub line_up_spec : {M : Type 1} → statement M
 line_up_spec =
     tie.close
     (tie.spec
-    invariant-loop
-    decreases-loop
+    invariant-loop-v
+    decreases-loop-v
     (λ c. search rules)
     fill-requires
     loop-holds

@@ -13,7 +13,7 @@ use Rattle.via_chains.proofs.CandidateLaws.{slot-filled}
 use Rattle.via_chains.proofs.write.Statement.{statement}
 use Rattle.via_chains.proofs.write.Tie as tie
 
-abbrev start : tie.After-arcs → tie.Start
+abbrev start : tie.After-arcs-k → tie.Start
 start c = c.before.before.before.before.before
 
 ready : (s : tie.Start) → Ready s.args.ask s.args.table.now s.args.closed.now s.args.room.now
@@ -34,43 +34,43 @@ fits : (s : tie.Start) → length (to s) + length (on s) ≤ length s.args.slot.
 unfolding joined_in
 fits s = omega (arith, s.requires.4, length-append (to s) (on s))
 
-arcs-requires : tie.Need-arcs-requires
+arcs-requires : tie.Need-arcs-k-requires
 arcs-requires c κs = let s = c.before.before.before.before in (ready s, s.requires.2, (near s).0)
 
-write-to-requires : tie.Need-write-to-requires
+write-to-requires : tie.Need-write_to-requires
 write-to-requires c κs =
     let s = start c.before in
-    (ready s, s.pre.2, (near s).0, c.before.arcs.ensures, omega (arith, c.before.arcs.ensures, fits s))
+    (ready s, s.requires.2, (near s).0, c.arcs-k.ensures, omega (arith, c.arcs-k.ensures, fits s))
 
-abbrev written : tie.After-write-on-arg → tie.After-write-to
+abbrev written : tie.After-write_on-arg-1 → tie.After-write_to
 written c = c.before.before.before
 
-write-on-requires : tie.Need-write-on-requires
+write-on-requires : tie.Need-write_on-end-requires
 write-on-requires c κs =
     let w = written c in
     let a = w.before.before in
     let s = start a in
-    (ready s, s.pre.2, (near s).1, omega (arith, a.arcs.ensures, fits s, w.write-to.kept.1.1.1.1.1.0))
+    (ready s, s.requires.2, (near s).1, omega (arith, a.arcs-k.ensures, fits s, w.write_to.auto.slot))
 
-fill32-part-requires : tie.Need-fill32-part-requires
+fill32-part-requires : tie.Need-fill32_part-requires
 fill32-part-requires c κs =
-    let o = c.before.before.before in
-    let w = written o.before in
+    let o = c in
+    let w = written o.before.before.before.before in
     let a = w.before.before in
     let s = start a in
-    (omega (arith, o.write-on.ensures.0, o.write-on.ensures.1, a.arcs.ensures, fits s, w.write-to.kept.1.1.1.1.1.0), omega arith)
+    (omega (arith, o.write_on-end.ensures.0, o.write_on-end.ensures.1, a.arcs-k.ensures, fits s, w.write_to.auto.slot), omega arith)
 
 returns : tie.Need-returns
 unfolding joined_in
 returns c =
-    let f = c.before.before in
-    let o = f.before.before.before.before in
-    let w = written o.before in
+    let f = c in
+    let o = f in
+    let w = written o.before.before.before.before.before.before.before in
     let a = w.before.before in
     let s = start a in (
-      slot-filled (to s) (on s) s.args.slot.now w.write-to.last.1.1.1.1.1.0 o.write-on.new.1.1.1.1.1.0 _ a.arcs.result o.write-on.result a.arcs.ensures
-          w.write-to.ensures w.write-to.kept.1.1.1.1.1.0 o.write-on.ensures.0 o.write-on.ensures.1 o.write-on.ensures.2 f.fill32-part.ensures,
-      omega (arith, o.write-on.ensures.0, a.arcs.ensures, length-append (to s) (on s)),
+      slot-filled (to s) (on s) s.args.slot.now w.write_to.new.slot o.write_on-end.new.slot _ a.arcs-k.result o.write_on-end.result a.arcs-k.ensures
+          w.write_to.ensures w.write_to.auto.slot o.write_on-end.ensures.0 o.write_on-end.ensures.1 o.write_on-end.ensures.2 f.fill32_part.ensures,
+      omega (arith, o.write_on-end.ensures.0, a.arcs-k.ensures, length-append (to s) (on s)),
     )
 
 pub write_spec : {M : Type 1} → statement M

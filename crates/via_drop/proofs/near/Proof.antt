@@ -21,87 +21,87 @@ use Rattle.via_drop.proofs.DropLaws.{judged-start, judged-more, judged-since, dr
 use Rattle.via_drop.proofs.near.Statement.{statement}
 use Rattle.via_drop.proofs.near.Tie as tie
 
-abbrev invariant-loop : tie.invariant-loop
-invariant-loop table closed ask route len room₀ root n marks first₀ v₀ room first v =
+abbrev invariant-loop-v : tie.invariant-loop-v
+invariant-loop-v table closed ask route len room₀ root n marks first₀ v₀ room first v =
     (v ≤ ask.nodes) × (Dropping ask table route marks room) × (JudgedTo ask table (route_in route) room₀ v room first)
 
-abbrev decreases-loop : tie.decreases-loop
-decreases-loop table closed ask route len room₀ root n marks first₀ v₀ room first v = ask.nodes - v
+abbrev decreases-loop-v : tie.decreases-loop-v
+decreases-loop-v table closed ask route len room₀ root n marks first₀ v₀ room first v = ask.nodes - v
 
-abbrev start_of : tie.After-begin invariant-loop decreases-loop → tie.Start invariant-loop decreases-loop
+abbrev start_of : tie.After-begin invariant-loop-v decreases-loop-v → tie.Start invariant-loop-v decreases-loop-v
 start_of b = b.before.before.before.before.before.before.before.before.before.before
 
-abbrev begun : tie.At-loop invariant-loop decreases-loop → tie.After-begin invariant-loop decreases-loop
+abbrev begun : tie.At-loop-v invariant-loop-v decreases-loop-v → tie.After-begin invariant-loop-v decreases-loop-v
 begun a = a.before.before.before
 
-abbrev start : tie.At-loop invariant-loop decreases-loop → tie.Start invariant-loop decreases-loop
+abbrev start : tie.At-loop-v invariant-loop-v decreases-loop-v → tie.Start invariant-loop-v decreases-loop-v
 start a = start_of (begun a)
 
-mark-slot-requires : tie.Need-mark-slot-requires invariant-loop decreases-loop
+mark-slot-requires : tie.Need-mark_slot-requires invariant-loop-v decreases-loop-v
 mark-slot-requires c κs =
-    let s = c.before.before.before.before.before.before in
+    let s = c in
     (few-records s.requires.0, search rules)
 
-begin-requires : tie.Need-begin-requires invariant-loop decreases-loop
+begin-requires : tie.Need-begin-requires invariant-loop-v decreases-loop-v
 begin-requires c κs =
-    let s = c.before.before.before.before.before.before.before.before.before in
+    let s = c in
     (s.requires.1.roomy, s.requires.0.s-below, s.requires.0.goal-below)
 
-same_route : (s : tie.Start invariant-loop decreases-loop) → route_in s.args.route.now ≡ s.args.route.now
+same_route : (s : tie.Start invariant-loop-v decreases-loop-v) → route_in s.args.route.now ≡ s.args.route.now
 same_route s = route-is (records s.args.table.now) s.args.route.now (few-records s.requires.0) s.requires.3
 
-loop-holds : tie.Need-loop-init invariant-loop decreases-loop
+loop-holds : tie.Need-loop-v-init invariant-loop-v decreases-loop-v
 loop-holds c =
     let b = c.before.before in
     let s = start_of b in
-    let k = b.before.before.before in
-    let led = led-prepared s.args.ask s.args.table.now s.args.closed.now (route_in s.args.route.now) s.args.room.now s.pre.0 s.pre.1 in (
+    let k = b in
+    let led = led-prepared s.args.ask s.args.table.now s.args.closed.now (route_in s.args.route.now) s.args.room.now s.requires.0 s.requires.1 in (
       omega arith,
-      dropping-begun s.pre.0 (subst (Filter s.args.table.now (route_in s.args.route.now ∷ [])) (sym k.mark-slot.ensures) (filter-slot s.args.table.now s.args.route.now _ refl))
-          (route-formed (records s.args.table.now) s.args.route.now (few-records s.pre.0) s.pre.3) led b.begin.ensures,
-      judged-start s.args.ask s.args.table.now (route_in s.args.route.now) _ (queue-kept b.begin.ensures.within s.pre.2),
+      dropping-begun s.requires.0 (subst (Filter s.args.table.now (route_in s.args.route.now ∷ [])) (sym k.mark_slot.ensures) (filter-slot s.args.table.now s.args.route.now _ refl))
+          (route-formed (records s.args.table.now) s.args.route.now (few-records s.requires.0) s.requires.3) led b.begin.ensures,
+      judged-start s.args.ask s.args.table.now (route_in s.args.route.now) _ (queue-kept b.begin.ensures.within s.requires.2),
     )
 
-judge-requires : tie.Need-judge-requires invariant-loop decreases-loop
+judge-requires : tie.Need-judge-first-requires invariant-loop-v decreases-loop-v
 judge-requires c κs =
-    let t = c.before.before in
-    let a = t.before in
+    let t = c in
+    let a = t.before.before.before in
     let s = start a in
-    (a.loop.invariant.1, t.loop-test.true, a.loop.invariant.2.queue, s.pre.4 ∙ ap (length_of (arcs_of s.args.table.now)) (sym (same_route s)))
+    (a.loop-v.invariant.1, t.loop-v-test.true, a.loop-v.invariant.2.queue, s.requires.4 ∙ ap (length_of (arcs_of s.args.table.now)) (sym (same_route s)))
 
-loop-again : tie.Need-loop-preserved invariant-loop decreases-loop
+loop-again : tie.Need-loop-v-preserved invariant-loop-v decreases-loop-v
 loop-again c =
-    let j = c.before.before in
-    let t = j.before.before.before in
-    let a = t.before in
+    let j = c in
+    let t = j in
+    let a = t.before.before.before.before.before.before in
     let s = start a in (
-      omega (arith, t.loop-test.true),
-      j.judge.ensures.0,
-      judged-more s.args.ask s.args.table.now (route_in s.args.route.now) (begun a).begin.new.0 a.loop.v t.loop-test.true a.loop.invariant.2 j.judge.ensures.1,
+      omega (arith, t.loop-v-test.true),
+      j.judge-first.ensures.0,
+      judged-more s.args.ask s.args.table.now (route_in s.args.route.now) (begun a).begin.new.room a.loop-v.v t.loop-v-test.true a.loop-v.invariant.2 j.judge-first.ensures.1,
     )
 
-since : (a : tie.At-loop invariant-loop decreases-loop)
+since : (a : tie.At-loop-v invariant-loop-v decreases-loop-v)
     → let s = start a in
-    JudgedTo s.args.ask s.args.table.now (route_in s.args.route.now) s.args.room.now a.loop.v a.loop.room a.loop.first
+    JudgedTo s.args.ask s.args.table.now (route_in s.args.route.now) s.args.room.now a.loop-v.v a.loop-v.room a.loop-v.first
 since a =
     let s = start a in
-    judged-since s.args.ask s.args.table.now (route_in s.args.route.now) s.args.room.now (begun a).begin.ensures.within a.loop.invariant.2
+    judged-since s.args.ask s.args.table.now (route_in s.args.route.now) s.args.room.now (begun a).begin.ensures.within a.loop-v.invariant.2
 
-returns : tie.Need-returns invariant-loop decreases-loop
+returns : tie.Need-returns invariant-loop-v decreases-loop-v
 returns c =
     let a = c.before in
     let s = start a in
-    let last : a.loop.v ≡ s.args.ask.nodes = omega (arith, c.loop-test.false, a.loop.invariant.0) in
-    let all = subst (λ i. JudgedTo s.args.ask s.args.table.now (route_in s.args.route.now) s.args.room.now i a.loop.room a.loop.first) last (since a) in
-    subst (λ e. Dropped (query_for s.args.ask s.args.table.now s.args.closed.now []) e s.args.room.now a.loop.room a.loop.first) (same_route s)
+    let last : a.loop-v.v ≡ s.args.ask.nodes = omega (arith, c.loop-v-test.false, a.loop-v.invariant.0) in
+    let all = subst (λ i. JudgedTo s.args.ask s.args.table.now (route_in s.args.route.now) s.args.room.now i a.loop-v.room a.loop-v.first) last (since a) in
+    subst (λ e. Dropped (query_for s.args.ask s.args.table.now s.args.closed.now []) e s.args.room.now a.loop-v.room a.loop-v.first) (same_route s)
     (dropped-all s.args.ask s.args.table.now (route_in s.args.route.now) s.args.room.now s.args.closed.now all)
 
 pub near_spec : {M : Type 1} → statement M
 near_spec =
     tie.close
     (tie.spec
-    invariant-loop
-    decreases-loop
+    invariant-loop-v
+    decreases-loop-v
     (λ c. search rules)
     (λ c. search rules)
     mark-slot-requires

@@ -13,93 +13,93 @@ use Rattle.via_rounds.proofs.LeftLaws.{record-in}
 use Rattle.via_rounds.proofs.all.Statement.{statement}
 use Rattle.via_rounds.proofs.all.Tie as tie
 
-abbrev invariant-loop : tie.invariant-loop
-invariant-loop table second closed ask k area₀ room₀ root x₀ area room x = Midway (query_for ask table closed []) (width ask) k area₀ room₀ area room x
+abbrev invariant-loop-x : tie.invariant-loop-x
+invariant-loop-x table second closed ask k area₀ room₀ root x₀ area room x = Midway (query_for ask table closed []) (width ask) k area₀ room₀ area room x
 
-abbrev decreases-loop : tie.decreases-loop
-decreases-loop table second closed ask k area₀ room₀ root x₀ area room x = k - x.r
+abbrev decreases-loop-x : tie.decreases-loop-x
+decreases-loop-x table second closed ask k area₀ room₀ root x₀ area room x = k - x.r
 
-abbrev start : tie.After-begin invariant-loop decreases-loop → tie.Start invariant-loop decreases-loop
+abbrev start : tie.After-begin-root invariant-loop-x decreases-loop-x → tie.Start invariant-loop-x decreases-loop-x
 start a = a.before.before.before.before.before.before.before.before
 
-abbrev begun : tie.After-going-on invariant-loop decreases-loop → tie.After-begin invariant-loop decreases-loop
-begun a = a.before.before.before.before.before.before
+abbrev begun : tie.After-going_on invariant-loop-x decreases-loop-x → tie.After-begin-root invariant-loop-x decreases-loop-x
+begun a = a.before.before.before.before.before
 
 -- the area and the room as `begin` left them
-abbrev area-left : tie.After-begin invariant-loop decreases-loop → List ℕ
-area-left a = a.begin.new.1.1.1.1.1.0
+abbrev area-left : tie.After-begin-root invariant-loop-x decreases-loop-x → List ℕ
+area-left a = a.begin-root.new.area
 
-abbrev room-left : tie.After-begin invariant-loop decreases-loop → List ℕ
-room-left a = a.begin.new.1.1.1.1.1.1.0
+abbrev room-left : tie.After-begin-root invariant-loop-x decreases-loop-x → List ℕ
+room-left a = a.begin-root.new.room
 
-loop-holds : tie.Need-loop-init invariant-loop decreases-loop
+loop-holds : tie.Need-loop-x-init invariant-loop-x decreases-loop-x
 loop-holds c =
     let b = begun c in
     let s = start b in
-    midway_start s.args.ask s.args.table.now s.args.closed.now s.pre.accepted s.args.k s.args.area.now s.args.room.now (area-left b) (room-left b) b.begin.result c.Going-on.result
-    b.begin.ensures c.Going-on.ensures
+    midway_start s.args.ask s.args.table.now s.args.closed.now s.requires.accepted s.args.k s.args.area.now s.args.room.now (area-left b) (room-left b) b.begin-root.result c.going_on.result
+    b.begin-root.ensures c.going_on.ensures
 
-going-on-requires : tie.Need-going-on-requires invariant-loop decreases-loop
-going-on-requires c κs = record-in c.before.before.before.before.before.begin.ensures.queue
+going-on-requires : tie.Need-going_on-requires invariant-loop-x decreases-loop-x
+going-on-requires c κs = record-in c.begin-root.ensures.queue
 
 -- the slots that were asked for are still there
-slots : (b : tie.After-begin invariant-loop decreases-loop) → (start b).args.k * width (start b).args.ask ≤ length (area-left b)
-slots b = omega (arith, (start b).requires.slots, b.begin.auto.1.1.1.1.1.0)
+slots : (b : tie.After-begin-root invariant-loop-x decreases-loop-x) → b.args.k * width b.args.ask ≤ length (area-left b)
+slots b = omega (arith, b.requires.slots, b.begin-root.auto.area)
 
-step-requires : tie.Need-step-requires invariant-loop decreases-loop
+step-requires : tie.Need-step-x-requires invariant-loop-x decreases-loop-x
 step-requires c κs =
-    let i = c.before.before in
-    let m = i.before in
-    let b = begun m.before in
+    let i = c in
+    let m = i in
+    let b = begun m.before.before.before.before in
     let s = start b in
-    taking s.args.ask s.args.table.now s.args.closed.now s.pre.accepted s.args.k (area-left b) (room-left b) m.loop.area m.loop.room m.loop.x m.loop.invariant i.loop-test.true
-    s.pre.few (slots b)
+    taking s.args.ask s.args.table.now s.args.closed.now s.requires.accepted s.args.k (area-left b) (room-left b) m.loop-x.area m.loop-x.room m.loop-x.x m.loop-x.invariant i.loop-x-test.true
+    s.requires.few (slots b)
 
-abbrev stepped : tie.After-slice-known6 invariant-loop decreases-loop → tie.After-step invariant-loop decreases-loop
+abbrev stepped : tie.After-slice_known-in-loop-x-2-1 invariant-loop-x decreases-loop-x → tie.After-step-x invariant-loop-x decreases-loop-x
 stepped c = c.before.before.before.before
 
-loop-less : tie.Need-loop-smaller invariant-loop decreases-loop
+loop-less : tie.Need-loop-x-smaller invariant-loop-x decreases-loop-x
 loop-less c =
     let p = stepped c in
-    let i = p.before.before.before in
-    let m = i.before in
-    let b = begun m.before in
+    let i = p in
+    let m = i in
+    let b = begun m.before.before.before.before.before in
     let s = start b in
     omega (
       arith,
-      p.step.ensures.count,
-      below s.args.ask s.args.table.now s.args.closed.now s.pre.accepted s.args.k (area-left b) (room-left b) m.loop.area m.loop.room m.loop.x m.loop.inv i.loop-test.taken,
+      p.step-x.ensures.count,
+      below s.args.ask s.args.table.now s.args.closed.now s.requires.accepted s.args.k (area-left b) (room-left b) m.loop-x.area m.loop-x.room m.loop-x.x m.loop-x.invariant i.loop-x-test.true,
     )
 
-loop-again : tie.Need-loop-preserved invariant-loop decreases-loop
+loop-again : tie.Need-loop-x-preserved invariant-loop-x decreases-loop-x
 loop-again c =
     let p = stepped c in
-    let i = p.before.before.before in
-    let m = i.before in
-    let b = begun m.before in
+    let i = p in
+    let m = i in
+    let b = begun m.before.before.before.before.before in
     let s = start b in
-    midway-step s.args.ask s.args.table.now s.args.closed.now s.pre.accepted s.args.k (area-left b) (room-left b) m.loop.area m.loop.room m.loop.x m.loop.inv i.loop-test.taken
-    s.pre.few p.step.last.1.1.1.1.0 p.step.last.1.1.1.1.1.0 p.step.result p.step.kept.1.1.1.1.0 p.step.kept.1.1.1.1.1.0 p.step.ensures
+    midway-step s.args.ask s.args.table.now s.args.closed.now s.requires.accepted s.args.k (area-left b) (room-left b) m.loop-x.area m.loop-x.room m.loop-x.x m.loop-x.invariant i.loop-x-test.true
+    s.requires.few p.step-x.new.area p.step-x.new.room p.step-x.result p.step-x.auto.area p.step-x.auto.room p.step-x.ensures
 
-returns : tie.Need-returns invariant-loop decreases-loop
+returns : tie.Need-returns invariant-loop-x decreases-loop-x
 returns c =
-    let t = c.before in
-    let f = t.before.before.before in
-    let e = f.before.before in
-    let m = e.before in
-    let b = begun m.before in
+    let t = c in
+    let f = t in
+    let e = f in
+    let m = e in
+    let b = begun m.before.before.before.before.before.before.before.before.before in
     let s = start b in
     let g = c.got_of.ensures in
-    midway_end s.args.ask s.args.table.now s.args.closed.now s.pre.accepted s.args.k (area-left b) (room-left b) m.loop.area m.loop.room m.loop.x m.loop.invariant e.loop-test.false
-    s.pre.few s.args.area.now s.args.room.now b.begin.ensures.area b.begin.ensures.long c.got_of.result _
+    midway_end s.args.ask s.args.table.now s.args.closed.now s.requires.accepted s.args.k (area-left b) (room-left b) m.loop-x.area m.loop-x.room m.loop-x.x m.loop-x.invariant e.loop-x-test.false
+    s.requires.few s.args.area.now s.args.room.now b.begin-root.ensures.area b.begin-root.ensures.long c.got_of.result _
     (ap {B = Told} (λ y. y.told) g ∙ t.tell.ensures) (ap {B = Sums} (λ y. y.sums) g) (ap {B = ℕ} (λ y. y.n) g) f.fill8.ensures
 
 pub all_spec : {M : Type 1} → statement M
 all_spec =
     tie.close
     (tie.spec
-    invariant-loop
-    decreases-loop
+    invariant-loop-x
+    decreases-loop-x
     (λ c κs. search rules)
     going-on-requires
     loop-holds

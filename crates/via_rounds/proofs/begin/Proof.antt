@@ -12,27 +12,27 @@ abbrev start : tie.After-prepare → tie.Start
 start a = a.before.before.before.before.before.before.before.before.before.before.before.before
 
 prepare-requires : tie.Need-prepare-requires
-prepare-requires c κs = let s = c.before.before.before.before.before.before.before.before.before.before.before in (s.requires.accepted, s.requires.right, s.requires.roomy)
+prepare-requires c κs = let s = c in (s.requires.accepted, s.requires.right, s.requires.roomy)
 
-line-up-requires : tie.Need-line-up-requires
+line-up-requires : tie.Need-line_up-requires
 line-up-requires c κs =
-    let p = c.before.before.before in
-    ((start p).requires.accepted, p.prepare.ensures.1)
+    let p = c in
+    (p.requires.accepted, p.prepare.ensures.1)
 
-abbrev prepared : tie.After-slice-known5 → tie.After-prepare
+abbrev prepared : tie.After-slice_known-5-1 → tie.After-prepare
 prepared c = c.before.before.before.before.before.before
 
 returns : tie.Need-returns
 returns c =
     let p = prepared c in
     let s = start p in
-    let u = c.before.before.line-up in
-    let l = p.prepare.last.1.1.1.1.0 in
-    let m = u.new.1.1.1.0 in
+    let u = c.line_up in
+    let l = p.prepare.new.room in
+    let m = u.new.room in
     let b = queue-beside l m u.ensures.0 in
     let net = net_for s.args.ask s.args.table.now s.args.closed.now in
     record {
-      area = p.before.before.before.before.fill32-part.ensures ∙ area-blank (width s.args.ask) s.args.k s.args.area.now;
+      area = p.fill32_part.ensures ∙ area-blank (width s.args.ask) s.args.k s.args.area.now;
       long = b.long ∙ p.prepare.ensures.0;
       prepared = prepared-beside net s.args.ask.s s.args.ask.goal l m b.field b.long p.prepare.ensures.1;
       queue = u.ensures.1;

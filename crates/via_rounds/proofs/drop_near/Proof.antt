@@ -5,14 +5,14 @@ use borrow.Author.Rules.{rules}
 use Rattle.via_rounds.proofs.drop_near.Statement.{statement}
 use Rattle.via_rounds.proofs.drop_near.Tie as tie
 
-returns : tie.Need-returns
-returns c = record { at_last = λ e. (refl, refl); before = λ e. absurd (subst T (sym c.if1.true ∙ e) tt) }
+returns : tie.Need-returns-then-last
+returns c = record { at_last = λ e. (refl, refl); before = λ e. absurd (subst T (sym c.if-last.true ∙ e) tt) }
 
 near-requires : tie.Need-near-requires
-near-requires c κs = let s = c.before.before.before.before.before.before in (s.requires.0, s.requires.1, s.requires.2, s.requires.3, s.requires.4)
+near-requires c κs = let s = c in (s.requires.0, s.requires.1, s.requires.2, s.requires.3, s.requires.4)
 
-returns-2 : tie.Need-returns-2
-returns-2 c = record { at_last = λ e. absurd (subst T (sym e ∙ c.before.before.before.before.if1.false) tt); before = λ e. c.before.before.near.ensures }
+returns-2 : tie.Need-returns
+returns-2 c = record { at_last = λ e. absurd (subst T (sym e ∙ c.if-last.false) tt); before = λ e. c.near.ensures }
 
 pub drop_near_spec : {M : Type 1} → statement M
 drop_near_spec = tie.close (tie.spec returns near-requires (λ c. search rules) returns-2)

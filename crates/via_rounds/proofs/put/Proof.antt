@@ -9,13 +9,13 @@ use Rattle.via_rounds.proofs.put.Tie as tie
 
 write-requires : tie.Need-write-requires
 write-requires c κs =
-    let s = c.before.before.before.before.before.before in
+    let s = c in
     (s.requires.0, s.requires.1, s.requires.2, s.requires.3, omega (arith, s.requires.4, slot_lent (width s.args.ask) s.args.r s.args.area.now s.requires.5))
 
 returns : tie.Need-returns
 returns c =
-    let u = c.before.before in
-    let s = u.before.before.before.before.before.before.before in
+    let u = c in
+    let s = u in
     let p = joined_in (net_for s.args.ask s.args.table.now s.args.closed.now) s.args.ask.s s.args.ask.goal s.args.room.now s.args.v in
     (slot-put (width s.args.ask) s.args.r s.args.area.now s.requires.5 _ p u.write.ensures.0, u.write.ensures.1)
 

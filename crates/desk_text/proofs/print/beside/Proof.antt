@@ -11,24 +11,24 @@ use Rattle.desk_text.proofs.TextLaws.{beside-some, beside_none, beside-length}
 use Rattle.desk_text.proofs.print.beside.Statement.{statement}
 use Rattle.desk_text.proofs.print.beside.Tie as tie
 
-returns : tie.Need-returns
+returns : tie.Need-returns-then-has_number
 returns c =
-    let w = c.before.before in
-    let t = w.before.before in
-    let s = t.before.before.before in
-    rw (beside-some s.args.outcome s.args.number (sym t.before.has-number.ensures ∙ t.if1.true))
+    let w = c in
+    let t = w in
+    let s = t in
+    rw (beside-some s.args.outcome s.args.number (sym t.has_number.ensures ∙ t.if-has_number.true))
     (appended-more _ _ (space ∷ []) _ _ (decimal s.args.number) _ _ (appended_one s.args.out.now s.args.at space (omega arith))
     (appended-by _ _ _ _ _ w.write.ensures) (omega arith))
 
-same_length : tie.Need-same-length
+same_length : tie.Need-shape_of-out-then-has_number
 same_length c =
-    let s = c.before.before.before.before.before.before.before in
+    let s = c in
     appended-length _ _ _ _ _ (returns c) (omega (arith, beside-length s.args.outcome s.args.number))
 
-returns-2 : tie.Need-returns-2
+returns-2 : tie.Need-returns
 returns-2 c =
-    let s = c.before.before.before in
-    rw (beside_none s.args.outcome s.args.number (sym c.before.has-number.ensures ∙ c.if1.false)) (appended-none s.args.out.now s.args.at)
+    let s = c in
+    rw (beside_none s.args.outcome s.args.number (sym c.has_number.ensures ∙ c.if-has_number.false)) (appended-none s.args.out.now s.args.at)
 
 pub beside_spec : {M : Type 1} → statement M
 beside_spec =

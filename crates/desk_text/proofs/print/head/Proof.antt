@@ -3,7 +3,6 @@
 use Prim.Native.Nat.{◌≤◌}
 use native.Mathlib.Omega.{arith}
 use lib.ListN.{length, length-set}
-use borrow.Author.Rules.{rules}
 use Rattle.numerals.specs.Decimal.{decimal}
 use Rattle.numerals.proofs.DecimalLaws.{decimal-length}
 use Rattle.text_put.specs.Put.{newline}
@@ -14,28 +13,28 @@ use Rattle.desk_text.proofs.print.head.Statement.{statement}
 use Rattle.desk_text.proofs.print.head.Tie as tie
 
 -- the places of the calls, each from the one after it
-abbrev start : tie.After-bytes → tie.Start
-start b = b.before.before.before.before
+abbrev start : tie.After-bytes-first → tie.Start
+start b = b.before.before.before.before.before
 
-abbrev word : tie.After-write → tie.After-bytes
+abbrev word : tie.After-write-second → tie.After-bytes-first
 word w = w.before.before.before.before
 
-abbrev told : tie.After-bytes2 → tie.After-write
-told n = n.before.before.before.before.before
+abbrev told : tie.After-bytes-third → tie.After-write-second
+told n = n.before.before.before.before.before.before
 
-abbrev routes : tie.After-write2 → tie.After-bytes2
+abbrev routes : tie.After-write-last → tie.After-bytes-third
 routes n = n.before.before.before.before
 
-outcome-most : (w : tie.After-write) → w.write.result ≤ 24
-outcome-most w = omega (arith, w.write.ensures.0, (word w).bytes.ensures.place, decimal-length (start (word w)).args.outcome)
+outcome-most : (w : tie.After-write-second) → w.write-second.result ≤ 24
+outcome-most w = omega (arith, w.write-second.ensures.0, (word w).bytes-first.ensures.place, decimal-length (start (word w)).args.outcome)
 
-routes-most : (n : tie.After-bytes2) → n.bytes2.result ≤ 32
-routes-most n = omega (arith, n.bytes2.ensures.place, outcome-most (told n))
+routes-most : (n : tie.After-bytes-third) → n.bytes-third.result ≤ 32
+routes-most n = omega (arith, n.bytes-third.ensures.place, outcome-most (told n))
 
-slice-write-out : tie.Need-slice-write-out
+slice-write-out : tie.Need-bounds-out-last
 slice-write-out c =
     let n = c.before.before in
-    omega (arith, routes-most (routes n), n.write2.ensures.0, decimal-length (start (word (told (routes n)))).args.count)
+    omega (arith, routes-most (routes n), n.write-last.ensures.0, decimal-length (start (word (told (routes n)))).args.count)
 
 returns : tie.Need-returns
 returns c =
@@ -46,20 +45,18 @@ returns c =
     let s = start b in
     let l = s.args.out.now in
     let h : 0 ≤ length l = omega arith in
-    let i = appended-more l 0 end_word _ _ (decimal s.args.outcome) _ _ b.bytes.ensures (appended-by _ _ _ _ _ w.write.ensures) h in
-    let ii = appended-more l 0 _ _ _ routes_word _ _ i r.bytes2.ensures h in
-    let iii = appended-more l 0 _ _ _ (decimal s.args.count) _ _ ii (appended-by _ _ _ _ _ n.write2.ensures) h in
+    let i = appended-more l 0 end_word _ _ (decimal s.args.outcome) _ _ b.bytes-first.ensures (appended-by _ _ _ _ _ w.write-second.ensures) h in
+    let ii = appended-more l 0 _ _ _ routes_word _ _ i r.bytes-third.ensures h in
+    let iii = appended-more l 0 _ _ _ (decimal s.args.count) _ _ ii (appended-by _ _ _ _ _ n.write-last.ensures) h in
     rw (← head-parts s.args.outcome s.args.count) (appended-more l 0 _ _ _ _ _ _ iii (appended_one _ _ newline (slice-write-out c)) h)
 
 pub head_spec : {M : Type 1} → statement M
 head_spec =
     tie.close
     (tie.spec
-    (λ c. search rules)
     (λ c κs. omega arith)
-    (λ c κs. omega (arith, c.before.before.before.bytes.ensures.place))
-    (λ c. search rules)
-    (λ c κs. omega (arith, outcome-most c.before.before.before.before))
+    (λ c κs. omega (arith, c.bytes-first.ensures.place))
+    (λ c κs. omega (arith, outcome-most c.before.before.before.before.before))
     (λ c κs. omega (arith, routes-most c.before.before.before))
     slice-write-out
     (λ c. omega (arith, slice-write-out c))

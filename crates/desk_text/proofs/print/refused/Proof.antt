@@ -14,23 +14,23 @@ use Rattle.desk_text.proofs.print.refused.Statement.{statement}
 use Rattle.desk_text.proofs.print.refused.Tie as tie
 
 -- the places of the calls, each from the one after it
-abbrev start : tie.After-bytes → tie.Start
-start b = b.before.before.before.before
+abbrev start : tie.After-bytes-first → tie.Start
+start b = b.before.before.before.before.before
 
-abbrev word : tie.After-write → tie.After-bytes
+abbrev word : tie.After-write-second → tie.After-bytes-first
 word w = w.before.before.before.before.before
 
-abbrev told : tie.After-beside → tie.After-write
+abbrev told : tie.After-beside-last → tie.After-write-second
 told n = n.before.before.before.before
 
-outcome-most : (w : tie.After-write) → w.write.result ≤ 28
-outcome-most w = omega (arith, w.write.ensures.0, (word w).bytes.ensures.place, decimal-length (start (word w)).args.told.outcome)
+outcome-most : (w : tie.After-write-second) → w.write-second.result ≤ 28
+outcome-most w = omega (arith, w.write-second.ensures.0, (word w).bytes-first.ensures.place, decimal-length (start (word w)).args.told.outcome)
 
-slice-write-out : tie.Need-slice-write-out
+slice-write-out : tie.Need-bounds-out-last
 slice-write-out c =
     let n = c.before.before in
     let s = start (word (told n)) in
-    omega (arith, outcome-most (told n), n.beside.ensures.place, beside-length s.args.told.outcome s.args.told.number)
+    omega (arith, outcome-most (told n), n.beside-last.ensures.place, beside-length s.args.told.outcome s.args.told.number)
 
 returns : tie.Need-returns
 returns c =
@@ -40,18 +40,17 @@ returns c =
     let s = start b in
     let l = s.args.out.now in
     let h : 0 ≤ length l = omega arith in
-    let i = appended-more l 0 refused_word _ _ (decimal s.args.told.outcome) _ _ b.bytes.ensures (appended-by _ _ _ _ _ w.write.ensures) h in
-    let ii = appended-more l 0 _ _ _ _ _ _ i n.beside.ensures h in
+    let i = appended-more l 0 refused_word _ _ (decimal s.args.told.outcome) _ _ b.bytes-first.ensures (appended-by _ _ _ _ _ w.write-second.ensures) h in
+    let ii = appended-more l 0 _ _ _ _ _ _ i n.beside-last.ensures h in
     rw (← refused-parts s.args.told.outcome s.args.told.number) (appended-more l 0 _ _ _ _ _ _ ii (appended_one _ _ newline (slice-write-out c)) h)
 
 pub refused_spec : {M : Type 1} → statement M
 refused_spec =
     tie.close
     (tie.spec
-    (λ c. search rules)
     (λ c κs. omega arith)
     (λ c. search rules)
-    (λ c κs. omega (arith, c.before.before.before.before.bytes.ensures.place))
+    (λ c κs. omega (arith, c.bytes-first.ensures.place))
     (λ c κs. omega (arith, outcome-most c.before.before.before))
     slice-write-out
     (λ c. omega (arith, slice-write-out c))

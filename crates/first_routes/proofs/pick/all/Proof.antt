@@ -17,17 +17,17 @@ use Rattle.first_routes.proofs.PickLaws.{back-same, goes-on-same, picked_more}
 use Rattle.first_routes.proofs.pick.all.Statement.{statement}
 use Rattle.first_routes.proofs.pick.all.Tie as tie
 
-abbrev invariant-loop : tie.invariant-loop
-invariant-loop table closed nodes goal room₀ v₀ room v =
+abbrev invariant-loop-v : tie.invariant-loop-v
+invariant-loop-v table closed nodes goal room₀ v₀ room v =
     (v ≤ nodes) × Within 28 4 room₀ room × Measured back nodes table room × GoesOn (net_of nodes table closed) goal room × PickedTo (net_of nodes table closed) goal room v
 
-abbrev decreases-loop : tie.decreases-loop
-decreases-loop table closed nodes goal room₀ v₀ room v = nodes - v
+abbrev decreases-loop-v : tie.decreases-loop-v
+decreases-loop-v table closed nodes goal room₀ v₀ room v = nodes - v
 
-abbrev net : tie.Start invariant-loop decreases-loop → Net
+abbrev net : tie.Start invariant-loop-v decreases-loop-v → Net
 net s = net_of s.args.nodes s.args.table.now s.args.closed.now
 
-loop-holds : tie.Need-loop-init invariant-loop decreases-loop
+loop-holds : tie.Need-loop-v-init invariant-loop-v decreases-loop-v
 loop-holds c =
     let s = c.before.before.before in
     let l = s.args.room.now in (
@@ -38,36 +38,36 @@ loop-holds c =
       record { each = λ v h. absurd (omega arith) },
     )
 
-one-requires : tie.Need-one-requires invariant-loop decreases-loop
-one-requires c κs = let a = c.before.before in (a.loop.invariant.2, a.loop.invariant.3, c.before.loop-test.true)
+one-requires : tie.Need-one-requires invariant-loop-v decreases-loop-v
+one-requires c κs = let a = c in (a.loop-v.invariant.2, a.loop-v.invariant.3, c.loop-v-test.true)
 
-loop-again : tie.Need-loop-preserved invariant-loop decreases-loop
+loop-again : tie.Need-loop-v-preserved invariant-loop-v decreases-loop-v
 loop-again c =
-    let o = c.before.before in
-    let a = o.before.before.before in
-    let s = a.before.before.before.before in
+    let o = c in
+    let a = o in
+    let s = a.before.before.before.before.before.before.before.before.before in
     let w = o.one.ensures in
-    let m = o.one.new.1.1.1.1.0 in (
-      omega (arith, o.before.before.loop-test.true),
-      within-trans a.loop.invariant.1 w.within,
-      measured-same back s.args.nodes s.args.table.now a.loop.room m w.within.long (back-same s.args.nodes a.loop.room m w.within) (λ u. w.within.field 4 u 56 refl refl) a.loop.invariant.2,
-      goes-on-same (net s) s.args.goal a.loop.room m w.within a.loop.invariant.3,
-      picked_more (net s) s.args.goal a.loop.room m a.loop.v a.loop.invariant.4 w,
+    let m = o.one.new.room in (
+      omega (arith, o.loop-v-test.true),
+      within-trans a.loop-v.invariant.1 w.within,
+      measured-same back s.args.nodes s.args.table.now a.loop-v.room m w.within.long (back-same s.args.nodes a.loop-v.room m w.within) (λ u. w.within.field 4 u 56 refl refl) a.loop-v.invariant.2,
+      goes-on-same (net s) s.args.goal a.loop-v.room m w.within a.loop-v.invariant.3,
+      picked_more (net s) s.args.goal a.loop-v.room m a.loop-v.v a.loop-v.invariant.4 w,
     )
 
-returns : tie.Need-returns invariant-loop decreases-loop
-returns c = let a = c.before in (a.loop.invariant.1, record { each = λ v h. a.loop.invariant.4.each v (omega arith) })
+returns : tie.Need-returns invariant-loop-v decreases-loop-v
+returns c = let a = c in (a.loop-v.invariant.1, record { each = λ v h. a.loop-v.invariant.4.each v (omega arith) })
 
 pub all_spec : {M : Type 1} → statement M
 all_spec =
     tie.close
     (tie.spec
-    invariant-loop
-    decreases-loop
+    invariant-loop-v
+    decreases-loop-v
     loop-holds
     one-requires
     (λ c. search rules)
     (λ c. search rules)
     loop-again
-    (λ c. c.before.loop.invariant.1.long)
+    (λ c. c.loop-v.invariant.1.long)
     returns)

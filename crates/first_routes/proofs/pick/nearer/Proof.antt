@@ -8,21 +8,21 @@ use Rattle.first_routes.proofs.OutLaws.{dist-at}
 use Rattle.first_routes.proofs.pick.nearer.Statement.{statement}
 use Rattle.first_routes.proofs.pick.nearer.Tie as tie
 
-abbrev start : tie.After-to-of → tie.Start
+abbrev start : tie.After-to_of-w → tie.Start
 start c = c.before.before.before
 
-end_below : (c : tie.After-to-of) → c.to-of.result < (start c).args.nodes
-end_below c = let s = start c in omega (arith, c.to-of.ensures, (all-good s.args.nodes s.args.table.now s.pre.0.no-fault s.args.arc s.pre.2).end)
+end_below : (c : tie.After-to_of-w) → c.to_of-w.result < (start c).args.nodes
+end_below c = let s = start c in omega (arith, c.to_of-w.ensures, (all-good s.args.nodes s.args.table.now s.requires.0.no-fault s.args.arc s.requires.2).end)
 
-long-requires : tie.Need-long-requires
+long-requires : tie.Need-long-rest-requires
 long-requires c κs = (omega (arith, end_below c, (start c).requires.0.roomy.enough), omega arith)
 
-add-result : tie.Need-overflow-add-result
+add-result : tie.Need-overflow_add-result
 add-result c =
     let e = c.before.before.before in
     let s = start e in
-    let w = e.to-of.result in
-    omega (arith, c.before.before.long.ensures, s.pre.0.most w, dist-at back s.args.nodes s.args.room.now w (end_below e))
+    let w = e.to_of-w.result in
+    omega (arith, c.long-rest.ensures, s.requires.0.most w, dist-at back s.args.nodes s.args.room.now w (end_below e))
 
 returns : tie.Need-returns
 returns c = cc

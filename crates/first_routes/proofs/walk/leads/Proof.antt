@@ -13,38 +13,38 @@ use Rattle.first_routes.proofs.WalkLaws.{leads-off, leads-by}
 use Rattle.first_routes.proofs.walk.leads.Statement.{statement}
 use Rattle.first_routes.proofs.walk.leads.Tie as tie
 
-abbrev start : tie.After-to-of → tie.Start
+abbrev start : tie.After-to_of-w → tie.Start
 start c = c.before.before.before
 
-end_below : (c : tie.After-to-of) → c.to-of.result < (start c).args.nodes
-end_below c = let s = start c in omega (arith, c.to-of.ensures, (all-good s.args.nodes s.args.table.now s.pre.0.no-fault s.args.arc s.pre.2).end)
+end_below : (c : tie.After-to_of-w) → c.to_of-w.result < (start c).args.nodes
+end_below c = let s = start c in omega (arith, c.to_of-w.ensures, (all-good s.args.nodes s.args.table.now s.requires.0.no-fault s.args.arc s.requires.2).end)
 
 -- what the first test compares
-sum_is : (c : tie.After-length-of)
-    → (c.before.before.long.result + c.length-of.result ≡ long_at 12 (start c.before.before.before).args.room.now (start c.before.before.before).args.v + len_at (start c.before.before.before).args.table.now (start c.before.before.before).args.arc)
-    × (c.before.long2.result ≡ long_at 12 (start c.before.before.before).args.room.now (to_at (start c.before.before.before).args.table.now (start c.before.before.before).args.arc))
+sum_is : (c : tie.After-length_of)
+    → (c.long-near.result + c.length_of.result ≡ long_at 12 (start c.before.before.before).args.room.now (start c.before.before.before).args.v + len_at (start c.before.before.before).args.table.now (start c.before.before.before).args.arc)
+    × (c.long-whole.result ≡ long_at 12 (start c.before.before.before).args.room.now (to_at (start c.before.before.before).args.table.now (start c.before.before.before).args.arc))
 sum_is c =
     let e = c.before.before.before in
-    (omega (arith, c.before.before.long.ensures, c.length-of.ensures), c.before.long2.ensures ∙ ap (long_at 12 (start e).args.room.now) e.to-of.ensures)
+    (omega (arith, c.long-near.ensures, c.length_of.ensures), c.long-whole.ensures ∙ ap (long_at 12 (start e).args.room.now) e.to_of-w.ensures)
 
-add-if1 : tie.Need-overflow-add-if1
+add-if1 : tie.Need-overflow_add-near
 add-if1 c =
     let s = start c.before.before.before in
-    omega (arith, c.before.before.long.ensures, s.pre.0.most s.args.v, dist-at forth s.args.nodes s.args.room.now s.args.v s.pre.1)
+    omega (arith, c.long-near.ensures, s.requires.0.most s.args.v, dist-at forth s.args.nodes s.args.room.now s.args.v s.requires.1)
 
-returns : tie.Need-returns
+returns : tie.Need-returns-then-near-length_of
 returns c =
     let l = c.before in
     let s = start l.before.before.before in
-    sym (leads-off s.args.table.now s.args.room.now s.args.v s.args.arc (λ e. omega (arith, e, (sum_is l).0, (sum_is l).1, c.if1.true)))
+    sym (leads-off s.args.table.now s.args.room.now s.args.v s.args.arc (λ e. omega (arith, e, (sum_is l).0, (sum_is l).1, c.if-near-length_of.true)))
 
-returns-2 : tie.Need-returns-2
+returns-2 : tie.Need-returns
 returns-2 c =
     let l = c.before.before in
     let e = l.before.before.before in
     let s = start e in
-    ap (λ k. eqb k none) (c.word.ensures ∙ ap (rank_in s.args.room.now) e.to-of.ensures)
-    ∙ sym (leads-by s.args.table.now s.args.room.now s.args.v s.args.arc (omega (arith, (sum_is l).0, (sum_is l).1, c.before.if1.false)))
+    ap (λ k. eqb k none) (c.word.ensures ∙ ap (rank_in s.args.room.now) e.to_of-w.ensures)
+    ∙ sym (leads-by s.args.table.now s.args.room.now s.args.v s.args.arc (omega (arith, (sum_is l).0, (sum_is l).1, c.if-near-length_of.false)))
 
 pub leads_spec : {M : Type 1} → statement M
 leads_spec =

@@ -14,9 +14,9 @@ returns c =
     let extends = far.before.before.before.before in
     let arc = extends.before.before.before.before in
     let d = arc.before.before in
-    let s = d.before.before.before.before.before in
-    head-put s.args.labels.now _ _ _ _ _ _ s.args.label s.args.arc s.args.extends _ s.args.len s.args.end _ d.before.before.far-of.ensures d.depth-of.ensures
-    arc.write32.ensures extends.write16.ensures far.write162.ensures len.write64.ensures end.write163.ensures depth.write164.ensures
+    let s = d.before.before.before in
+    head-put s.args.labels.now _ _ _ _ _ _ s.args.label s.args.arc s.args.extends _ s.args.len s.args.end _ d.before.far_of-far.ensures d.depth_of-depth.ensures
+    arc.write32.ensures extends.write16.ensures far.write16-2.ensures len.write64.ensures end.write16-3.ensures depth.write16-4.ensures
 
 pub put_head_spec : {M : Type 1} → statement M
 put_head_spec =

@@ -5,17 +5,17 @@ use Rattle.near_choice.proofs.RankLaws.{lower-new, lower-old}
 use Rattle.near_choice.proofs.least.lower.Statement.{statement}
 use Rattle.near_choice.proofs.least.lower.Tie as tie
 
-returns : tie.Need-returns
+returns : tie.Need-returns-then-less
 returns c =
-    let k = c.before in
-    let s = k.before in
-    (sym (lower-new s.args.x s.args.y (sym k.less.ensures ∙ c.if1.true)), s.requires.1)
+    let k = c in
+    let s = k in
+    (sym (lower-new s.args.x s.args.y (sym k.less.ensures ∙ c.if-less.true)), s.requires.1)
 
-returns-2 : tie.Need-returns-2
+returns-2 : tie.Need-returns
 returns-2 c =
-    let k = c.before in
-    let s = k.before in
-    (sym (lower-old s.args.x s.args.y (sym k.less.ensures ∙ c.if1.false)), s.requires.0)
+    let k = c in
+    let s = k in
+    (sym (lower-old s.args.x s.args.y (sym k.less.ensures ∙ c.if-less.false)), s.requires.0)
 
 pub lower_spec : {M : Type 1} → statement M
 lower_spec = tie.close (tie.spec (λ c κs. search rules) returns returns-2)

@@ -1,49 +1,48 @@
--- Where no slot is left nothing is written; else the path is written to the slot behind those listed (`added`).
-use mathlib.Core.Path.{◌≡◌, refl, ap, ap₂, ◌∙◌}
+-- Where no slot is left nothing is written; else the path is put in its place.
+use mathlib.Core.Path.{◌≡◌, refl, sym, ap, subst, ◌∙◌}
 use mathlib.Core.Logic.{inl, inr}
-use mathlib.Core.List.{List}
-use Prim.Native.Nat.{ℕ, suc, ◌+◌, ◌-◌, ◌*◌, ◌≤◌}
+use mathlib.Core.List.{List, Memᴰ}
+use Prim.Native.Nat.{ℕ, suc, ◌-◌}
 use native.Mathlib.Omega.{arith}
 use native.Mathlib.Nat.{sub-zero, mul-le-mul_right}
 use lib.ListN.{length, take}
 use borrow.Author.Rules.{rules}
-use Rattle.words.specs.Part.{patch}
-use Rattle.words.proofs.PartLaws.{back, lent}
-use Rattle.labels.specs.Chain.{slot_of}
-use Rattle.route_list.proofs.ListLaws.{added}
+use Rattle.net.specs.Route.{length_of}
+use Rattle.table.specs.Table.{arcs_of}
+use Rattle.search_ask.specs.Earlier.{earlier_in}
+use Rattle.route_list.specs.Listed.{Fits, Placed}
 use Rattle.near_routes.proofs.step.arrive.Statement.{statement}
 use Rattle.near_routes.proofs.step.arrive.Tie as tie
 
--- the part of the path that is lent
+-- the part that is lent
 part : (depth : ℕ) (p : List ℕ) → take (depth - 0) p ≡ take depth p
 part depth p = ap (λ k. take k p) (sub-zero depth)
 
-abbrev start : tie.Else1 → tie.Start
-start h = h.before.before.before.before
+returns : tie.Need-returns-then-slots-n
+returns c = inl (omega (arith, c.if-slots-n.true), refl, refl)
 
--- the slot behind those listed lies in the list
-inside : (h : tie.Else1) → (start h).args.n * length (start h).args.path.now + length (start h).args.path.now ≤ length (start h).args.list.now
-inside h = let s = start h in omega (arith, mul-le-mul_right {m = suc s.args.n} {n = s.args.slots} (length s.args.path.now) (omega (arith, h.if1.false)), s.pre.4)
-
-returns : tie.Need-returns
-returns c = inl (omega (arith, c.if1.true), refl, refl)
-
-returns-2 : tie.Need-returns-2
-returns-2 c =
-    let v = c.before.before in
-    let h = v.before.before.before in
-    let s = start h in
+place-requires : tie.Need-place-requires
+place-requires c κs =
+    let e = c in
+    let s = e in
     let a = s.args in
-    let w = length a.path.now in
-    let at = a.n * w in
-    let e : at + w - at ≡ w = omega arith in
-    inr (
-      omega (arith, h.if1.false),
-      refl,
-      added a.table.now w a.n a.list.now (take a.depth a.path.now) _ s.pre.0 s.pre.1 s.pre.3 (inside h)
-          (back at (at + w) a.list.now v.write.new.0 (omega arith)
-          ∙ ap (patch at (at + w) a.list.now) (v.write.ensures ∙ ap₂ slot_of (lent at (at + w) a.list.now (omega arith) (inside h) ∙ e) (part a.depth a.path.now))),
+    let w = length a.path.now in (
+      s.requires.0,
+      s.requires.1,
+      s.requires.2,
+      s.requires.3 ∙ ap (length_of (arcs_of a.table.now)) (sym (part a.depth a.path.now)),
+      subst (Fits a.table.now w) (sym (part a.depth a.path.now)) s.requires.5,
+      omega (arith, mul-le-mul_right {m = suc a.n} {n = a.slots} w (omega (arith, e.if-slots-n.false)), s.requires.6),
+      λ k. s.requires.8 (subst (λ z. Memᴰ z (earlier_in w a.n a.list.now)) (part a.depth a.path.now) k),
     )
+
+returns-2 : tie.Need-returns
+returns-2 c =
+    let k = c in
+    let e = k in
+    let s = e in
+    let a = s.args in
+    inr (omega (arith, e.if-slots-n.false), refl, subst (λ z. Placed a.table.now (length a.path.now) a.n a.list.now z k.place.new.list) (part a.depth a.path.now) k.place.ensures)
 
 pub arrive_spec : {M : Type 1} → statement M
 arrive_spec =
@@ -54,13 +53,7 @@ arrive_spec =
     (λ c. search rules)
     (λ c. search rules)
     (λ c. search rules)
-    (λ c. search rules)
-    (λ c. search rules)
-    (λ c. omega (arith, inside c))
-    (λ c. search rules)
-    (λ c. search rules)
-    (λ c. search rules)
-    (λ c κs. search rules)
+    place-requires
     (λ c. search rules)
     (λ c. search rules)
     returns-2)

@@ -9,33 +9,33 @@ use Rattle.node_queue.proofs.LowerLaws.{block-pos, block-double, root-first}
 use Rattle.node_queue.proofs.lower.root.Statement.{statement}
 use Rattle.node_queue.proofs.lower.root.Tie as tie
 
-abbrev invariant-loop : tie.invariant-loop
-invariant-loop b n below half₀ half = (Block 0 half) × (half < n)
+abbrev invariant-loop-half : tie.invariant-loop-half
+invariant-loop-half b n below half₀ half = (Block 0 half) × (half < n)
 
-abbrev decreases-loop : tie.decreases-loop
-decreases-loop b n below half₀ half = n - half
+abbrev decreases-loop-half : tie.decreases-loop-half
+decreases-loop-half b n below half₀ half = n - half
 
-word-requires : tie.Need-word-requires invariant-loop decreases-loop
-word-requires c κs = (room_at c.before.before.before.requires.0 _ c.before.loop.invariant.1, omega arith)
+word-requires : tie.Need-word-requires invariant-loop-half decreases-loop-half
+word-requires c κs = (room_at c.before.before.before.requires.0 _ c.before.loop-half.invariant.1, omega arith)
 
-returns : tie.Need-returns invariant-loop decreases-loop
+returns : tie.Need-returns invariant-loop-half decreases-loop-half
 returns c =
     let e = c.before in
-    let v = e.before.loop.invariant in
+    let v = e.before.loop-half.invariant in
     let s = e.before.before.before in
-    subst (First _ _ _ _) (sym c.word.ensures) (root-first _ _ _ s.requires.3 v.0 v.1 (omega (arith, e.loop-test.false)))
+    subst (First _ _ _ _) (sym c.word.ensures) (root-first _ _ _ s.requires.3 v.0 v.1 (omega (arith, e.loop-half-test.false)))
 
 pub root_spec : {M : Type 1} → statement M
 root_spec =
     tie.close
     (tie.spec
-    invariant-loop
-    decreases-loop
+    invariant-loop-half
+    decreases-loop-half
     (λ c. (c.before.requires.1, c.before.requires.2))
-    (λ c. omega (arith, c.loop.invariant.1, c.before.before.requires.0.few))
+    (λ c. omega (arith, c.loop-half.invariant.1, c.before.before.requires.0.few))
     (λ c. search rules)
-    (λ c. omega (arith, block-pos c.before.loop.invariant.0))
-    (λ c. (block-double c.before.loop.invariant.0, omega arith))
+    (λ c. omega (arith, block-pos c.before.loop-half.invariant.0))
+    (λ c. (block-double c.before.loop-half.invariant.0, omega arith))
     word-requires
     (λ c. search rules)
     returns)

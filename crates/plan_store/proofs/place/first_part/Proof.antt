@@ -7,8 +7,8 @@ use Rattle.plan_record.specs.Record.{part_arcs}
 use Rattle.plan_store.proofs.place.first_part.Statement.{statement}
 use Rattle.plan_store.proofs.place.first_part.Tie as tie
 
-returns : tie.Need-returns
-returns c = sym (take_all part_arcs c.before.args.arcs.now c.if1.true)
+returns : tie.Need-returns-then-arcs-le-PART
+returns c = sym (take_all part_arcs c.args.arcs.now c.if-arcs-le-PART.true)
 
 pub first_part_spec : {M : Type 1} → statement M
-first_part_spec = tie.close (tie.spec returns (λ c. sym (length-take-le _ c.before.before.args.arcs.now (omega arith))) (λ c. search rules))
+first_part_spec = tie.close (tie.spec returns (λ c. sym (length-take-le _ c.args.arcs.now (omega arith))) (λ c. search rules))

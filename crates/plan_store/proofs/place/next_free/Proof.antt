@@ -12,40 +12,40 @@ use Rattle.plan_store.proofs.PlaceLaws.{is_free, next-done}
 use Rattle.plan_store.proofs.place.next_free.Statement.{statement}
 use Rattle.plan_store.proofs.place.next_free.Tie as tie
 
-abbrev invariant-loop : tie.invariant-loop
-invariant-loop file at n i₀ i = next_free file i ≡ next_free file at
+abbrev invariant-loop-i : tie.invariant-loop-i
+invariant-loop-i file at n i₀ i = next_free file i ≡ next_free file at
 
-abbrev decreases-loop : tie.decreases-loop
-decreases-loop file at n i₀ i = n - i
+abbrev decreases-loop-i : tie.decreases-loop-i
+decreases-loop-i file at n i₀ i = n - i
 
-abbrev bytes : tie.At-loop invariant-loop decreases-loop → List ℕ
-bytes a = a.before.before.args.file.now
+abbrev bytes : tie.At-loop-i invariant-loop-i decreases-loop-i → List ℕ
+bytes a = a.args.file.now
 
-returns : tie.Need-returns invariant-loop decreases-loop
+returns : tie.Need-returns-then-plan-eq0 invariant-loop-i decreases-loop-i
 unfolding next_free
 returns c =
     let a = c.before.before.before in
     let f = bytes a in
-    sym (first-stop (is_free f) (records f) a.loop.i c.before.before.loop-test.true (eq-eqb _ _ (sym c.before.plan.ensures ∙ c.if1.true))) ∙ a.loop.invariant
+    sym (first-stop (is_free f) (records f) a.loop-i.i c.loop-i-test.true (eq-eqb _ _ (sym c.plan.ensures ∙ c.if-plan-eq0.true))) ∙ a.loop-i.invariant
 
-loop-again : tie.Need-loop-preserved invariant-loop decreases-loop
+loop-again : tie.Need-loop-i-preserved invariant-loop-i decreases-loop-i
 unfolding next_free
 loop-again c =
     let a = c.before.before.before in
     let f = bytes a in
-    sym (first_step (is_free f) (records f) a.loop.i c.before.before.loop-test.true (ne_eqb _ _ (λ e. c.if1.false (c.before.plan.ensures ∙ e)))) ∙ a.loop.invariant
+    sym (first_step (is_free f) (records f) a.loop-i.i c.loop-i-test.true (ne_eqb _ _ (λ e. c.if-plan-eq0.false (c.plan.ensures ∙ e)))) ∙ a.loop-i.invariant
 
-returns-2 : tie.Need-returns-2 invariant-loop decreases-loop
+returns-2 : tie.Need-returns invariant-loop-i decreases-loop-i
 returns-2 c =
     let a = c.before in
-    sym (next-done (bytes a) a.loop.i (omega arith)) ∙ a.loop.invariant
+    sym (next-done (bytes a) a.loop-i.i (omega arith)) ∙ a.loop-i.invariant
 
 pub next_free_spec : {M : Type 1} → statement M
 next_free_spec =
     tie.close
     (tie.spec
-    invariant-loop
-    decreases-loop
+    invariant-loop-i
+    decreases-loop-i
     (λ c. refl)
     (λ c κs. search rules)
     returns

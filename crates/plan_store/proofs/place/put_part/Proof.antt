@@ -11,11 +11,11 @@ use Rattle.plan_store.proofs.PlaceLaws.{next-within}
 use Rattle.plan_store.proofs.place.put_part.Statement.{statement}
 use Rattle.plan_store.proofs.place.put_part.Tie as tie
 
-abbrev start : tie.After-next-free → tie.Start
-start c = c.before.before.before.before
+abbrev start : tie.After-next_free-i → tie.Start
+start c = c.before.before.before
 
-within : (c : tie.After-next-free) → c.next-free.result < records (start c).args.file.now
-within c = let s = start c in omega (arith, c.next-free.ensures, next-within s.args.file.now s.args.at s.pre)
+within : (c : tie.After-next_free-i) → c.next_free-i.result < records (start c).args.file.now
+within c = let s = start c in omega (arith, c.next_free-i.ensures, next-within s.args.file.now s.args.at s.requires)
 
 put-requires : tie.Need-put-requires
 put-requires c κs =

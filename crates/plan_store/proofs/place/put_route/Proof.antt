@@ -11,62 +11,62 @@ use Rattle.plan_store.proofs.TurnLaws.{Partly, partly-room, partly_more, partly-
 use Rattle.plan_store.proofs.place.put_route.Statement.{statement}
 use Rattle.plan_store.proofs.place.put_route.Tie as tie
 
-abbrev invariant-loop : tie.invariant-loop
-invariant-loop file₀ at plan rank route next₀ part₀ from₀ file next part from =
+abbrev invariant-loop-from : tie.invariant-loop-from
+invariant-loop-from file₀ at plan rank route next₀ part₀ from₀ file next part from =
     Partly plan rank route (record { file = file₀; at = at }) (record { file = file; at = next }) part from
     × (from ≡ part * part_arcs) × (from ≤ length route + part_arcs)
 
-abbrev decreases-loop : tie.decreases-loop
-decreases-loop file₀ at plan rank route next₀ part₀ from₀ file next part from = length route + part_arcs - from
+abbrev decreases-loop-from : tie.decreases-loop-from
+decreases-loop-from file₀ at plan rank route next₀ part₀ from₀ file next part from = length route + part_arcs - from
 
-abbrev start : tie.At-loop invariant-loop decreases-loop → tie.Start invariant-loop decreases-loop
+abbrev start : tie.At-loop-from invariant-loop-from decreases-loop-from → tie.Start invariant-loop-from decreases-loop-from
 start a = a.before.before.before
 
-abbrev first : tie.At-loop invariant-loop decreases-loop → Placing
+abbrev first : tie.At-loop-from invariant-loop-from decreases-loop-from → Placing
 first a = record { file = (start a).args.file.now; at = (start a).args.at }
 
-abbrev here : tie.At-loop invariant-loop decreases-loop → Placing
-here a = record { file = a.loop.file; at = a.loop.next }
+abbrev here : tie.At-loop-from invariant-loop-from decreases-loop-from → Placing
+here a = record { file = a.loop-from.file; at = a.loop-from.next }
 
-put-part-requires : tie.Need-put-part-requires invariant-loop decreases-loop
+put-part-requires : tie.Need-put_part-next-requires invariant-loop-from decreases-loop-from
 put-part-requires c κs =
     let a = c.before.before.before in
     let s = (start a).args in
-    partly-room s.plan s.rank s.route.now (first a) (here a) a.loop.part a.loop.from a.loop.invariant.0 c.before.before.loop-test.true
+    partly-room s.plan s.rank s.route.now (first a) (here a) a.loop-from.part a.loop-from.from a.loop-from.invariant.0 c.loop-from-test.true
 
-loop-again : tie.Need-loop-preserved invariant-loop decreases-loop
+loop-again : tie.Need-loop-from-preserved invariant-loop-from decreases-loop-from
 loop-again c =
     let p = c.before.before in
     let a = p.before.before.before.before in
     let s = (start a).args in
-    let more = p.before.before.before.loop-test.true in
-    let put : record { file = p.put-part.new.0; at = p.put-part.result }
-    ≡ placed_next (here a) (record { plan = s.plan; rank = s.rank; part = a.loop.part; arcs = take part_arcs (drop a.loop.from s.route.now) }) =
-    p.put-part.ensures
-    ∙ ap (λ l. placed_next (here a) (record { plan = s.plan; rank = s.rank; part = a.loop.part; arcs = take part_arcs l })) (from-there s.route.now a.loop.from) in
-    (partly_more s.plan s.rank s.route.now (first a) (here a) a.loop.part a.loop.from a.loop.invariant.0 _ more put, omega arith, omega arith)
+    let more = p.loop-from-test.true in
+    let put : record { file = p.put_part-next.new.file; at = p.put_part-next.result }
+    ≡ placed_next (here a) (record { plan = s.plan; rank = s.rank; part = a.loop-from.part; arcs = take part_arcs (drop a.loop-from.from s.route.now) }) =
+    p.put_part-next.ensures
+    ∙ ap (λ l. placed_next (here a) (record { plan = s.plan; rank = s.rank; part = a.loop-from.part; arcs = take part_arcs l })) (from-there s.route.now a.loop-from.from) in
+    (partly_more s.plan s.rank s.route.now (first a) (here a) a.loop-from.part a.loop-from.from a.loop-from.invariant.0 _ more put, omega arith, omega arith)
 
-returns : tie.Need-returns invariant-loop decreases-loop
+returns : tie.Need-returns invariant-loop-from decreases-loop-from
 returns c =
     let a = c.before in
     let s = (start a).args in
-    partly-done s.plan s.rank s.route.now (first a) (here a) a.loop.part a.loop.from a.loop.invariant.0 c.loop-test.false
+    partly-done s.plan s.rank s.route.now (first a) (here a) a.loop-from.part a.loop-from.from a.loop-from.invariant.0 c.loop-from-test.false
 
 pub put_route_spec : {M : Type 1} → statement M
 put_route_spec =
     tie.close
     (tie.spec
-    invariant-loop
-    decreases-loop
-    (λ c. ((refl, c.before.before.requires.0, refl), omega arith, omega arith))
+    invariant-loop-from
+    decreases-loop-from
+    (λ c. ((refl, c.requires.0, refl), omega arith, omega arith))
     (λ c. search rules)
     (λ c. search rules)
     (λ c. search rules)
     (λ c. search rules)
     put-part-requires
-    (λ c. omega (arith, (start c.before.before.before.before.before.before).pre.1))
+    (λ c. omega (arith, (start c.before.before.before.before.before.before).requires.1))
     (λ c. search rules)
     (λ c. search rules)
     loop-again
-    (λ c. c.before.loop.invariant.0.2)
+    (λ c. c.loop-from.invariant.0.2)
     returns)

@@ -12,68 +12,68 @@ use Rattle.plan_store.proofs.TurnLaws.{Stored-to, none-stored, room-route, one-s
 use Rattle.plan_store.proofs.place.put_routes.Statement.{statement}
 use Rattle.plan_store.proofs.place.put_routes.Tie as tie
 
-abbrev invariant-loop : tie.invariant-loop
-invariant-loop file₀ plan slots routes width next₀ r₀ file next r =
+abbrev invariant-loop-r : tie.invariant-loop-r
+invariant-loop-r file₀ plan slots routes width next₀ r₀ file next r =
     Stored-to plan slots routes width (record { file = file₀; at = 0 }) (record { file = file; at = next }) r × (r ≤ routes)
 
-abbrev decreases-loop : tie.decreases-loop
-decreases-loop file₀ plan slots routes width next₀ r₀ file next r = routes - r
+abbrev decreases-loop-r : tie.decreases-loop-r
+decreases-loop-r file₀ plan slots routes width next₀ r₀ file next r = routes - r
 
-abbrev start : tie.At-loop invariant-loop decreases-loop → tie.Start invariant-loop decreases-loop
+abbrev start : tie.At-loop-r invariant-loop-r decreases-loop-r → tie.Start invariant-loop-r decreases-loop-r
 start a = a.before.before.before
 
-abbrev first : tie.At-loop invariant-loop decreases-loop → Placing
+abbrev first : tie.At-loop-r invariant-loop-r decreases-loop-r → Placing
 first a = record { file = (start a).args.file.now; at = 0 }
 
-abbrev here : tie.At-loop invariant-loop decreases-loop → Placing
-here a = record { file = a.loop.file; at = a.loop.next }
+abbrev here : tie.At-loop-r invariant-loop-r decreases-loop-r → Placing
+here a = record { file = a.loop-r.file; at = a.loop-r.next }
 
-loop-holds : tie.Need-loop-init invariant-loop decreases-loop
+loop-holds : tie.Need-loop-r-init invariant-loop-r decreases-loop-r
 loop-holds c =
     let s = c.before.before in
     (none-stored s.args.plan s.args.slots.now s.args.routes s.args.width (record { file = s.args.file.now; at = 0 }) s.requires.3, omega arith)
 
-slot-of-requires : tie.Need-slot-of-requires invariant-loop decreases-loop
+slot-of-requires : tie.Need-slot_of-requires invariant-loop-r decreases-loop-r
 slot-of-requires c κs =
     let a = c.before.before in
     let s = start a in
-    slot-within s.args.slots.now s.args.routes s.args.width s.pre.0 a.loop.r c.before.loop-test.true
+    slot-within s.args.slots.now s.args.routes s.args.width s.requires.0 a.loop-r.r c.loop-r-test.true
 
-put-slot-requires : tie.Need-put-slot-requires invariant-loop decreases-loop
+put-slot-requires : tie.Need-put_slot-next-requires invariant-loop-r decreases-loop-r
 put-slot-requires c κs =
     let a = c.before.before.before in
     let s = start a in
-    let more = c.before.before.loop-test.true in
+    let more = c.loop-r-test.true in
     let e = c.slot_of.ensures in (
-      rw e (room-route s.args.plan s.args.slots.now s.args.routes s.args.width (first a) (here a) a.loop.r a.loop.invariant.0 more),
-      omega (arith, ap length e, length-slot s.args.slots.now s.args.routes s.args.width s.pre.0 a.loop.r more, s.pre.2),
+      rw e (room-route s.args.plan s.args.slots.now s.args.routes s.args.width (first a) (here a) a.loop-r.r a.loop-r.invariant.0 more),
+      omega (arith, ap length e, length-slot s.args.slots.now s.args.routes s.args.width s.requires.0 a.loop-r.r more, s.requires.2),
     )
 
-loop-again : tie.Need-loop-preserved invariant-loop decreases-loop
+loop-again : tie.Need-loop-r-preserved invariant-loop-r decreases-loop-r
 loop-again c =
     let p = c.before.before in
     let a = p.before.before.before.before in
     let s = start a in
-    let put : record { file = p.put-slot.new.0; at = p.put-slot.result }
-    ≡ placed_on (here a) (parts_left s.args.plan a.loop.r 0 (route_in (slot s.args.width a.loop.r s.args.slots.now))) =
-    p.put-slot.ensures ∙ ap (λ l. placed_on (here a) (parts_left s.args.plan a.loop.r 0 (route_in l))) p.before.slot_of.ensures in (
-      one-stored s.args.plan s.args.slots.now s.args.routes s.args.width (first a) (here a) a.loop.r a.loop.invariant.0 _
-          p.before.before.before.loop-test.true put,
+    let put : record { file = p.put_slot-next.new.file; at = p.put_slot-next.result }
+    ≡ placed_on (here a) (parts_left s.args.plan a.loop-r.r 0 (route_in (slot s.args.width a.loop-r.r s.args.slots.now))) =
+    p.put_slot-next.ensures ∙ ap (λ l. placed_on (here a) (parts_left s.args.plan a.loop-r.r 0 (route_in l))) p.slot_of.ensures in (
+      one-stored s.args.plan s.args.slots.now s.args.routes s.args.width (first a) (here a) a.loop-r.r a.loop-r.invariant.0 _
+          p.loop-r-test.true put,
       omega arith,
     )
 
-returns : tie.Need-returns invariant-loop decreases-loop
+returns : tie.Need-returns invariant-loop-r decreases-loop-r
 returns c =
     let a = c.before in
     let s = start a in
-    ap (λ t. t.file) (all-stored s.args.plan s.args.slots.now s.args.routes s.args.width (first a) (here a) a.loop.r a.loop.invariant.0 c.loop-test.false)
+    ap (λ t. t.file) (all-stored s.args.plan s.args.slots.now s.args.routes s.args.width (first a) (here a) a.loop-r.r a.loop-r.invariant.0 c.loop-r-test.false)
 
 pub put_routes_spec : {M : Type 1} → statement M
 put_routes_spec =
     tie.close
     (tie.spec
-    invariant-loop
-    decreases-loop
+    invariant-loop-r
+    decreases-loop-r
     loop-holds
     (λ c. search rules)
     slot-of-requires
@@ -81,5 +81,5 @@ put_routes_spec =
     (λ c. search rules)
     (λ c. search rules)
     loop-again
-    (λ c. c.before.loop.invariant.0.2)
+    (λ c. c.loop-r.invariant.0.2)
     returns)

@@ -18,46 +18,46 @@ use Rattle.plan_store.proofs.slots.all_arcs.Tie as tie
 abbrev passes : ℕ → Bool
 passes a = ltb a most_arcs
 
-abbrev invariant-loop : tie.invariant-loop
-invariant-loop route i₀ i = (i ≤ length route) × (every (λ j. passes (get_or route j 0)) (rest (length route) i) ≡ every passes route)
+abbrev invariant-loop-i : tie.invariant-loop-i
+invariant-loop-i route i₀ i = (i ≤ length route) × (every (λ j. passes (get_or route j 0)) (rest (length route) i) ≡ every passes route)
 
-abbrev decreases-loop : tie.decreases-loop
-decreases-loop route i₀ i = length route - i
+abbrev decreases-loop-i : tie.decreases-loop-i
+decreases-loop-i route i₀ i = length route - i
 
-abbrev list : tie.At-loop invariant-loop decreases-loop → List ℕ
-list a = a.before.args.route.now
+abbrev list : tie.At-loop-i invariant-loop-i decreases-loop-i → List ℕ
+list a = a.args.route.now
 
-abbrev at : (a : tie.At-loop invariant-loop decreases-loop) → ℕ → Bool
+abbrev at : (a : tie.At-loop-i invariant-loop-i decreases-loop-i) → ℕ → Bool
 at a j = passes (get_or (list a) j 0)
 
-loop-holds : tie.Need-loop-init invariant-loop decreases-loop
+loop-holds : tie.Need-loop-i-init invariant-loop-i decreases-loop-i
 loop-holds c = (search rules, every-from passes c.args.route.now)
 
-returns : tie.Need-returns invariant-loop decreases-loop
+returns : tie.Need-returns-then-route-i-ge-MOST_ARCS invariant-loop-i decreases-loop-i
 returns c =
     let a = c.before.before.before in
-    sym (each-stop (at a) a.loop.i (length (list a)) c.before.before.loop-test.true (le-ltb _ _ c.if1.true)) ∙ a.loop.invariant.1
+    sym (each-stop (at a) a.loop-i.i (length (list a)) c.loop-i-test.true (le-ltb _ _ c.if-route-i-ge-MOST_ARCS.true)) ∙ a.loop-i.invariant.1
 
-loop-again : tie.Need-loop-preserved invariant-loop decreases-loop
+loop-again : tie.Need-loop-i-preserved invariant-loop-i decreases-loop-i
 loop-again c =
     let a = c.before.before.before in
-    (search rules, sym (each_step (at a) a.loop.i (length (list a)) c.before.before.loop-test.true (lt-ltb _ _ c.if1.false)) ∙ a.loop.invariant.1)
+    (search rules, sym (each_step (at a) a.loop-i.i (length (list a)) c.loop-i-test.true (lt-ltb _ _ c.if-route-i-ge-MOST_ARCS.false)) ∙ a.loop-i.invariant.1)
 
-returns-2 : tie.Need-returns-2 invariant-loop decreases-loop
+returns-2 : tie.Need-returns invariant-loop-i decreases-loop-i
 returns-2 c =
     let a = c.before in
-    sym (each-done (at a) a.loop.i (length (list a)) (omega arith)) ∙ a.loop.invariant.1
+    sym (each-done (at a) a.loop-i.i (length (list a)) (omega arith)) ∙ a.loop-i.invariant.1
 
 pub all_arcs_spec : {M : Type 1} → statement M
 all_arcs_spec =
     tie.close
     (tie.spec
-    invariant-loop
-    decreases-loop
+    invariant-loop-i
+    decreases-loop-i
     loop-holds
     (λ c. search rules)
     (λ c. search rules)
-    (λ c. omega (arith, c.shared-slice-known.given c.before.before.loop.i))
+    (λ c. omega (arith, c.shared_slice_known-1.given c.loop-i.i))
     returns
     (λ c. search rules)
     (λ c. search rules)

@@ -18,42 +18,42 @@ use Rattle.plan_store.proofs.slots.all_none.Tie as tie
 abbrev passes : ℕ → Bool
 passes a = eqb a no_number
 
-abbrev invariant-loop : tie.invariant-loop
-invariant-loop words i₀ i = (i ≤ length words) × (every (λ j. passes (get_or words j 0)) (rest (length words) i) ≡ every passes words)
+abbrev invariant-loop-i : tie.invariant-loop-i
+invariant-loop-i words i₀ i = (i ≤ length words) × (every (λ j. passes (get_or words j 0)) (rest (length words) i) ≡ every passes words)
 
-abbrev decreases-loop : tie.decreases-loop
-decreases-loop words i₀ i = length words - i
+abbrev decreases-loop-i : tie.decreases-loop-i
+decreases-loop-i words i₀ i = length words - i
 
-abbrev list : tie.At-loop invariant-loop decreases-loop → List ℕ
-list a = a.before.args.words.now
+abbrev list : tie.At-loop-i invariant-loop-i decreases-loop-i → List ℕ
+list a = a.args.words.now
 
-abbrev at : (a : tie.At-loop invariant-loop decreases-loop) → ℕ → Bool
+abbrev at : (a : tie.At-loop-i invariant-loop-i decreases-loop-i) → ℕ → Bool
 at a j = passes (get_or (list a) j 0)
 
-loop-holds : tie.Need-loop-init invariant-loop decreases-loop
+loop-holds : tie.Need-loop-i-init invariant-loop-i decreases-loop-i
 loop-holds c = (search rules, every-from passes c.args.words.now)
 
-returns : tie.Need-returns invariant-loop decreases-loop
+returns : tie.Need-returns-then-words-i invariant-loop-i decreases-loop-i
 returns c =
     let a = c.before.before.before in
-    sym (each-stop (at a) a.loop.i (length (list a)) c.before.before.loop-test.true (ne_eqb _ _ c.if1.true)) ∙ a.loop.invariant.1
+    sym (each-stop (at a) a.loop-i.i (length (list a)) c.loop-i-test.true (ne_eqb _ _ c.if-words-i.true)) ∙ a.loop-i.invariant.1
 
-loop-again : tie.Need-loop-preserved invariant-loop decreases-loop
+loop-again : tie.Need-loop-i-preserved invariant-loop-i decreases-loop-i
 loop-again c =
     let a = c.before.before.before in
-    (search rules, sym (each_step (at a) a.loop.i (length (list a)) c.before.before.loop-test.true (eq-eqb _ _ c.if1.false)) ∙ a.loop.invariant.1)
+    (search rules, sym (each_step (at a) a.loop-i.i (length (list a)) c.loop-i-test.true (eq-eqb _ _ c.if-words-i.false)) ∙ a.loop-i.invariant.1)
 
-returns-2 : tie.Need-returns-2 invariant-loop decreases-loop
+returns-2 : tie.Need-returns invariant-loop-i decreases-loop-i
 returns-2 c =
     let a = c.before in
-    sym (each-done (at a) a.loop.i (length (list a)) (omega arith)) ∙ a.loop.invariant.1
+    sym (each-done (at a) a.loop-i.i (length (list a)) (omega arith)) ∙ a.loop-i.invariant.1
 
 pub all_none_spec : {M : Type 1} → statement M
 all_none_spec =
     tie.close
     (tie.spec
-    invariant-loop
-    decreases-loop
+    invariant-loop-i
+    decreases-loop-i
     loop-holds
     (λ c. search rules)
     (λ c. search rules)

@@ -19,41 +19,41 @@ use Rattle.plan_store.proofs.slots.arcs_in.Tie as tie
 abbrev ends : List ℕ → ℕ → Bool
 ends words m = eqb (get_or words m 0) no_number
 
-abbrev invariant-loop : tie.invariant-loop
-invariant-loop slot m₀ m = (m ≤ length slot) × (first_at (ends slot) (length slot - m) m ≡ arcs_in slot)
+abbrev invariant-loop-m : tie.invariant-loop-m
+invariant-loop-m slot m₀ m = (m ≤ length slot) × (first_at (ends slot) (length slot - m) m ≡ arcs_in slot)
 
-abbrev decreases-loop : tie.decreases-loop
-decreases-loop slot m₀ m = length slot - m
+abbrev decreases-loop-m : tie.decreases-loop-m
+decreases-loop-m slot m₀ m = length slot - m
 
-abbrev words : tie.At-loop invariant-loop decreases-loop → List ℕ
-words a = a.before.args.slot.now
+abbrev words : tie.At-loop-m invariant-loop-m decreases-loop-m → List ℕ
+words a = a.args.slot.now
 
-loop-holds : tie.Need-loop-init invariant-loop decreases-loop
+loop-holds : tie.Need-loop-m-init invariant-loop-m decreases-loop-m
 unfolding arcs_in
 loop-holds c = (search rules, rw sub-zero)
 
-returns : tie.Need-returns invariant-loop decreases-loop
+returns : tie.Need-returns-then-slot-m invariant-loop-m decreases-loop-m
 returns c =
     let a = c.before.before.before in
-    sym (first-stop (ends (words a)) (length (words a)) a.loop.m c.before.before.loop-test.true (eq-eqb _ _ c.if1.true)) ∙ a.loop.invariant.1
+    sym (first-stop (ends (words a)) (length (words a)) a.loop-m.m c.loop-m-test.true (eq-eqb _ _ c.if-slot-m.true)) ∙ a.loop-m.invariant.1
 
-loop-again : tie.Need-loop-preserved invariant-loop decreases-loop
+loop-again : tie.Need-loop-m-preserved invariant-loop-m decreases-loop-m
 loop-again c =
     let a = c.before.before.before in
-    (search rules, sym (first_step (ends (words a)) (length (words a)) a.loop.m c.before.before.loop-test.true (ne_eqb _ _ c.if1.false)) ∙ a.loop.invariant.1)
+    (search rules, sym (first_step (ends (words a)) (length (words a)) a.loop-m.m c.loop-m-test.true (ne_eqb _ _ c.if-slot-m.false)) ∙ a.loop-m.invariant.1)
 
-returns-2 : tie.Need-returns-2 invariant-loop decreases-loop
+returns-2 : tie.Need-returns invariant-loop-m decreases-loop-m
 returns-2 c =
     let a = c.before in
-    let end : a.loop.m ≡ length (words a) = omega arith in
-    end ∙ sym (first_done (ends (words a)) (length (words a)) a.loop.m end) ∙ a.loop.invariant.1
+    let end : a.loop-m.m ≡ length (words a) = omega arith in
+    end ∙ sym (first_done (ends (words a)) (length (words a)) a.loop-m.m end) ∙ a.loop-m.invariant.1
 
 pub arcs_in_spec : {M : Type 1} → statement M
 arcs_in_spec =
     tie.close
     (tie.spec
-    invariant-loop
-    decreases-loop
+    invariant-loop-m
+    decreases-loop-m
     loop-holds
     (λ c. search rules)
     (λ c. search rules)

@@ -10,7 +10,7 @@ use Rattle.plan_store.proofs.slots.slot_of.Tie as tie
 returns : tie.Need-returns
 unfolding slot
 returns c =
-    let a = c.before.args in
+    let a = c.args in
     let e : a.r * a.width + a.width - a.r * a.width ≡ a.width = omega arith in
     rw e
 

@@ -8,12 +8,12 @@ use Rattle.query_pair.proofs.made.got_of.Tie as tie
 
 returns : tie.Need-returns
 returns c =
-    let p = c.before.before in
-    let w = p.before in
-    let z = w.before.before in
-    let s = z.before.before.before in
+    let p = c in
+    let w = p in
+    let z = w in
+    let s = z in
     ap₂ (λ x y. record { told = x; sums = y; n = 2 }) p.plain.ensures
-    (c.with2.ensures ∙ ap (λ t. set_entry t 1 (as_summary s.args.x.second)) (w.with.ensures ∙ ap (λ t. set_entry t 0 (as_summary s.args.x.first)) z.no-sums.ensures))
+    (c.with.ensures ∙ ap (λ t. set_entry t 1 (as_summary s.args.x.second)) (w.with-one.ensures ∙ ap (λ t. set_entry t 0 (as_summary s.args.x.first)) z.no_sums.ensures))
 
 pub got_of_spec : {M : Type 1} → statement M
 got_of_spec =

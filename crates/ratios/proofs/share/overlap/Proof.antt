@@ -18,60 +18,60 @@ use Rattle.ratios.proofs.ShareLaws.{overlap-turn, overlap-room}
 use Rattle.ratios.proofs.share.overlap.Statement.{statement}
 use Rattle.ratios.proofs.share.overlap.Tie as tie
 
-abbrev invariant-loop : tie.invariant-loop
-invariant-loop table ask q p total₀ i₀ total i = (i ≤ length q) × (total ≡ overlap (net_for ask table []) (take i q) (route_in p))
+abbrev invariant-loop-i : tie.invariant-loop-i
+invariant-loop-i table ask q p total₀ i₀ total i = (i ≤ length q) × (total ≡ overlap (net_for ask table []) (take i q) (route_in p))
 
-abbrev decreases-loop : tie.decreases-loop
-decreases-loop table ask q p total₀ i₀ total i = length q - i
+abbrev decreases-loop-i : tie.decreases-loop-i
+decreases-loop-i table ask q p total₀ i₀ total i = length q - i
 
-abbrev start : tie.At-loop invariant-loop decreases-loop → tie.Start invariant-loop decreases-loop
+abbrev start : tie.At-loop-i invariant-loop-i decreases-loop-i → tie.Start invariant-loop-i decreases-loop-i
 start a = a.before.before.before.before
 
-abbrev net : tie.Start invariant-loop decreases-loop → Net
+abbrev net : tie.Start invariant-loop-i decreases-loop-i → Net
 net s = net_for s.args.ask s.args.table.now []
 
-loop-holds : tie.Need-loop-init invariant-loop decreases-loop
+loop-holds : tie.Need-loop-i-init invariant-loop-i decreases-loop-i
 unfolding overlap length_of keep
 loop-holds c = (search rules, refl)
 
-arc-below : (c : tie.In-loop invariant-loop decreases-loop) → let s = start c.before in get_or s.args.q.now c.before.loop.i 0 < records s.args.table.now
-arc-below c = (start c.before).pre.1 c.before.loop.i c.loop-test.true
+arc-below : (c : tie.In-loop-i invariant-loop-i decreases-loop-i) → let s = start c.before in get_or s.args.q.now c.loop-i.i 0 < records s.args.table.now
+arc-below c = (start c.before).requires.1 c.loop-i.i c.loop-i-test.true
 
-cast-arc : tie.Need-overflow-cast-arc invariant-loop decreases-loop
-cast-arc c = omega (arith, arc-below c.before, few-records (start c.before.before).pre.0)
+cast-arc : tie.Need-overflow_cast-arc invariant-loop-i decreases-loop-i
+cast-arc c = omega (arith, arc-below c.before, few-records (start c.before.before).requires.0)
 
-shared-requires : tie.Need-shared-requires invariant-loop decreases-loop
+shared-requires : tie.Need-shared-total-requires invariant-loop-i decreases-loop-i
 shared-requires c κs =
     let s = start c.before.before in
-    (s.pre.0, arc-below c.before, λ i j le h e. absurd (omega (arith, e, s.pre.3 i (omega arith), few-records s.pre.0)))
+    (s.requires.0, arc-below c.before, λ i j le h e. absurd (omega (arith, e, s.requires.3 i (omega arith), few-records s.requires.0)))
 
 -- the total after a turn
-more : (c : tie.After-shared invariant-loop decreases-loop)
+more : (c : tie.After-shared-total invariant-loop-i decreases-loop-i)
     → let a = c.before.before.before in let s = start a in
-    a.loop.total + c.shared.result ≡ overlap (net s) (take (a.loop.i + 1) s.args.q.now) (route_in s.args.p.now)
+    a.loop-i.total + c.shared-total.result ≡ overlap (net s) (take (a.loop-i.i + 1) s.args.q.now) (route_in s.args.p.now)
 more c =
     let a = c.before.before.before in
     let s = start a in
-    ap₂ ◌+◌ a.loop.invariant.1 c.shared.ensures ∙ overlap-turn (net s) s.args.q.now (route_in s.args.p.now) a.loop.i c.before.before.loop-test.true
+    ap₂ ◌+◌ a.loop-i.invariant.1 c.shared-total.ensures ∙ overlap-turn (net s) s.args.q.now (route_in s.args.p.now) a.loop-i.i c.loop-i-test.true
 
-add_total : tie.Need-overflow-add-total invariant-loop decreases-loop
+add_total : tie.Need-overflow_add-total invariant-loop-i decreases-loop-i
 add_total c =
     let a = c.before.before.before in
     let s = start a in
-    omega (arith, more c, overlap-room (net s) (lengths-most s.pre.0) s.args.q.now (route_in s.args.p.now) a.loop.i c.before.before.loop-test.true s.pre.2)
+    omega (arith, more c, overlap-room (net s) (lengths-most s.requires.0) s.args.q.now (route_in s.args.p.now) a.loop-i.i c.loop-i-test.true s.requires.2)
 
-returns : tie.Need-returns invariant-loop decreases-loop
+returns : tie.Need-returns invariant-loop-i decreases-loop-i
 returns c =
     let a = c.before in
     let s = start a in
-    a.loop.invariant.1 ∙ ap (λ l. overlap (net s) l (route_in s.args.p.now)) (take_all a.loop.i s.args.q.now (omega arith))
+    a.loop-i.invariant.1 ∙ ap (λ l. overlap (net s) l (route_in s.args.p.now)) (take_all a.loop-i.i s.args.q.now (omega arith))
 
 pub overlap_spec : {M : Type 1} → statement M
 overlap_spec =
     tie.close
     (tie.spec
-    invariant-loop
-    decreases-loop
+    invariant-loop-i
+    decreases-loop-i
     loop-holds
     (λ c. search rules)
     (λ c. search rules)

@@ -9,15 +9,15 @@ use Rattle.ratios.proofs.RouteLaws.{slot-length}
 use Rattle.ratios.proofs.share.route.Statement.{statement}
 use Rattle.ratios.proofs.share.route.Tie as tie
 
-part-result-end : tie.Need-slice-bounds-result-end
+part-result-end : tie.Need-slice_bounds-result-end
 part-result-end c =
-    let s = c.before.before in
-    omega (arith, ap length c.slot.ensures, slot-length (width s.args.ask) s.args.j s.args.area.now s.requires.1, s.requires.2)
+    let s = c in
+    omega (arith, ap length c.slot-slot.ensures, slot-length (width s.args.ask) s.args.j s.args.area.now s.requires.1, s.requires.2)
 
 returns : tie.Need-returns
 returns c =
-    let s = c.before.before.before in
-    ap (λ n. take n c.before.slot.result.now) (sub-zero s.args.count) ∙ ap (take s.args.count) c.before.slot.ensures
+    let s = c in
+    ap (λ n. take n c.slot-slot.result.now) (sub-zero s.args.count) ∙ ap (take s.args.count) c.slot-slot.ensures
 
 pub route_spec : {M : Type 1} → statement M
 route_spec =

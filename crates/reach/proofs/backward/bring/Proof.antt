@@ -13,7 +13,7 @@ use Rattle.reach.proofs.backward.bring.Statement.{statement}
 use Rattle.reach.proofs.backward.bring.Tie as tie
 
 abbrev begun : tie.After-long → tie.Start
-begun p = p.before.before.before.before.before
+begun p = p.before.before.before.before
 
 module _ (t closed : List ℕ) (w v len a : ℕ) where
   is_none : Chosen t closed w v len a → records t ≤ a → NoFitting t closed w v len
@@ -26,34 +26,34 @@ module _ (t closed : List ℕ) (w v len a : ℕ) where
 
 long-requires : tie.Need-long-requires
 long-requires c κs =
-    let s = c.before.before.before.before in
+    let s = c.before.before.before in
     (record-in s.args.nodes s.args.room.now s.args.w s.requires.2.roomy s.requires.3, s.requires.1.dist-in)
 
-returns : tie.Need-returns
-returns c = inl (inl (omega (arith, c.if1.true, c.before.long.ensures)), refl, refl)
+returns : tie.Need-returns-then-long-c
+returns c = inl (inl (omega (arith, c.if-long-c.true, c.long.ensures)), refl, refl)
 
-start-of-requires : tie.Need-start-of-requires
-start-of-requires c κs = let s = begun c.before.before in (s.pre.2.roomy, s.pre.4, s.pre.3)
+start-of-requires : tie.Need-start_of-first-requires
+start-of-requires c κs = let s = begun c.before in (s.requires.2.roomy, s.requires.4, s.requires.3)
 
-returns-2 : tie.Need-returns-2
+returns-2 : tie.Need-returns-then-table-a
 returns-2 c =
     let k = c.before in
-    let s = begun k.before.before.before.before in
-    inl (inr (is_none s.args.table.now s.args.closed.now s.args.w s.args.v s.args.len k.open-arc.result k.open-arc.ensures c.if2.true), refl, refl)
+    let s = begun k.before.before.before in
+    inl (inr (is_none s.args.table.now s.args.closed.now s.args.w s.args.v s.args.len k.open_arc-a.result k.open_arc-a.ensures c.if-table-a.true), refl, refl)
 
 look-requires : tie.Need-look-requires
 look-requires c κs =
     let e = c.before in
-    let s = begun e.before.before.before.before.before in
-    (s.pre.1, s.pre.2, s.pre.3, omega (arith, e.if2.false, (good-size s.args.nodes s.args.table.now s.pre.0).3))
+    let s = begun e.before.before.before.before in
+    (s.requires.1, s.requires.2, s.requires.3, omega (arith, e.if-table-a.false, (good-size s.args.nodes s.args.table.now s.requires.0).3))
 
-returns-3 : tie.Need-returns-3
+returns-3 : tie.Need-returns
 returns-3 c =
     let o = c.before.before in
     let e = o.before.before in
     let k = e.before in
-    let s = begun k.before.before.before.before in
-    inr (k.open-arc.result, is_one s.args.table.now s.args.closed.now s.args.w s.args.v s.args.len k.open-arc.result k.open-arc.ensures e.if2.false, o.look.ensures)
+    let s = begun k.before.before.before in
+    inr (k.open_arc-a.result, is_one s.args.table.now s.args.closed.now s.args.w s.args.v s.args.len k.open_arc-a.result k.open_arc-a.ensures e.if-table-a.false, o.look.ensures)
 
 pub bring_spec : {M : Type 1} → statement M
 bring_spec =

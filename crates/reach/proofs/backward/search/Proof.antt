@@ -15,99 +15,99 @@ use Rattle.reach.proofs.LookingLaws.{ready-start, ready-found, left, over-less}
 use Rattle.reach.proofs.backward.search.Statement.{statement}
 use Rattle.reach.proofs.backward.search.Tie as tie
 
-abbrev invariant-loop : tie.invariant-loop
-invariant-loop table second closed nodes goal x room₀ n far root₀ key₀ room root key =
+abbrev invariant-loop-key : tie.invariant-loop-key
+invariant-loop-key table second closed nodes goal x room₀ n far root₀ key₀ room root key =
     (length room ≡ length room₀) × Elsewhere x room₀ room × (key ≡ key_at room root) × Ready (reversed (net_of nodes table closed)) goal x room root
 
-abbrev decreases-loop : tie.decreases-loop
-decreases-loop table second closed nodes goal x room₀ n far root₀ key₀ room root key = left (done_in x nodes room) nodes
+abbrev decreases-loop-key : tie.decreases-loop-key
+decreases-loop-key table second closed nodes goal x room₀ n far root₀ key₀ room root key = left (done_in x nodes room) nodes
 
-abbrev begun : tie.After-start invariant-loop decreases-loop → tie.Start invariant-loop decreases-loop
+abbrev begun : tie.After-start-root invariant-loop-key decreases-loop-key → tie.Start invariant-loop-key decreases-loop-key
 begun p = p.before.before.before.before.before.before
 
-abbrev net : tie.Start invariant-loop decreases-loop → Net
+abbrev net : tie.Start invariant-loop-key decreases-loop-key → Net
 net s = reversed (net_of s.args.nodes s.args.table.now s.args.closed.now)
 
-long-requires : tie.Need-long-requires invariant-loop decreases-loop
+long-requires : tie.Need-long-key-requires invariant-loop-key decreases-loop-key
 long-requires c κs =
-    let p = c.before.before.before in
-    let q = p.start.ensures.queue in
-    (record-in (begun p).args.nodes p.start.new.0 p.start.result q.roomy q.root.used, omega arith)
+    let p = c.before.before in
+    let q = p.start-root.ensures.queue in
+    (record-in (begun p).args.nodes p.start-root.new.room p.start-root.result q.roomy q.root.used, omega arith)
 
-loop-holds : tie.Need-loop-init invariant-loop decreases-loop
+loop-holds : tie.Need-loop-key-init invariant-loop-key decreases-loop-key
 unfolding reversed
 loop-holds c =
-    let p = c.before.before.before.before in
+    let p = c.before.before.before in
     let s = begun p in
-    (refl, else_same s.args.x p.start.new.0, c.long.ensures, ready-start (net s) s.args.goal s.args.x s.args.room.now p.start.new.0 p.start.result s.pre.3 s.pre.2 p.start.ensures)
+    (refl, else_same s.args.x p.start-root.new.room, c.long-key.ensures, ready-start (net s) s.args.goal s.args.x s.args.room.now p.start-root.new.room p.start-root.result s.requires.3 s.requires.2 p.start-root.ensures)
 
-abbrev started : tie.At-loop invariant-loop decreases-loop → tie.After-start invariant-loop decreases-loop
-started a = a.before.before.before.before.before
+abbrev started : tie.At-loop-key invariant-loop-key decreases-loop-key → tie.After-start-root invariant-loop-key decreases-loop-key
+started a = a.before.before.before.before
 
-word-requires : tie.Need-word-requires invariant-loop decreases-loop
+word-requires : tie.Need-word-first-requires invariant-loop-key decreases-loop-key
 unfolding reversed
 word-requires c κs =
-    let a = c.before.before in
-    let q = a.loop.invariant.3.looking.queue in
-    (record-in (begun (started a)).args.nodes a.loop.room a.loop.root q.roomy q.root.used, omega arith)
+    let a = c.before in
+    let q = a.loop-key.invariant.3.looking.queue in
+    (record-in (begun (started a)).args.nodes a.loop-key.room a.loop-key.root q.roomy q.root.used, omega arith)
 
-leave-requires : tie.Need-leave-requires invariant-loop decreases-loop
+leave-requires : tie.Need-leave-root-requires invariant-loop-key decreases-loop-key
 unfolding reversed
 leave-requires c κs =
-    let i = c.before.before.before in
+    let i = c.before.before in
     let a = i.before in
     let p = started a in
     let s = begun p in
-    let e = else-trans s.args.x p.start.ensures.elsewhere a.loop.invariant.1 in (
-      s.pre.0,
-      s.pre.1,
-      a.loop.invariant.3,
-      omega (arith, i.loop-test.true, a.loop.invariant.2),
-      c.before.word.ensures ∙ (coming-else s.args.x s.pre.5 s.args.nodes s.args.second.now e s.pre.7).at a.loop.root a.loop.invariant.3.looking.queue.root.used,
-      s.pre.5,
-      leaving-else s.args.x s.pre.5 s.args.nodes s.args.table.now e s.pre.6,
+    let e = else-trans s.args.x p.start-root.ensures.elsewhere a.loop-key.invariant.1 in (
+      s.requires.0,
+      s.requires.1,
+      a.loop-key.invariant.3,
+      omega (arith, i.loop-key-test.true, a.loop-key.invariant.2),
+      c.word-first.ensures ∙ (coming-else s.args.x s.requires.5 s.args.nodes s.args.second.now e s.requires.7).at a.loop-key.root a.loop-key.invariant.3.looking.queue.root.used,
+      s.requires.5,
+      leaving-else s.args.x s.requires.5 s.args.nodes s.args.table.now e s.requires.6,
     )
 
-long-requires-2 : tie.Need-long-requires-2 invariant-loop decreases-loop
+long-requires-2 : tie.Need-long-key-requires-in-loop-key invariant-loop-key decreases-loop-key
 unfolding reversed
 long-requires-2 c κs =
-    let v = c.before.before.before in
-    let q = v.leave.ensures.ready.looking.queue in
-    (record-in (begun (started v.before.before.before.before.before)).args.nodes v.leave.new.1.1.1.1.1.1.0 v.leave.result q.roomy q.root.used, omega arith)
+    let v = c.before.before in
+    let q = v.leave-root.ensures.ready.looking.queue in
+    (record-in (begun (started v.before.before.before.before)).args.nodes v.leave-root.new.room v.leave-root.result q.roomy q.root.used, omega arith)
 
-loop-less : tie.Need-loop-smaller invariant-loop decreases-loop
+loop-less : tie.Need-loop-key-smaller invariant-loop-key decreases-loop-key
 unfolding reversed
 loop-less c =
-    let v = c.before.before.before.before in
-    let i = v.before.before.before.before in
+    let v = c.before.before.before in
+    let i = v.before.before.before in
     let a = i.before in
     let s = begun (started a) in
-    over-less (net s) s.args.goal s.args.x a.loop.room v.leave.new.1.1.1.1.1.1.0 a.loop.root v.leave.result a.loop.invariant.3 (omega (arith, i.loop-test.true, a.loop.invariant.2)) v.leave.ensures
+    over-less (net s) s.args.goal s.args.x a.loop-key.room v.leave-root.new.room a.loop-key.root v.leave-root.result a.loop-key.invariant.3 (omega (arith, i.loop-key-test.true, a.loop-key.invariant.2)) v.leave-root.ensures
 
-loop-again : tie.Need-loop-preserved invariant-loop decreases-loop
+loop-again : tie.Need-loop-key-preserved invariant-loop-key decreases-loop-key
 loop-again c =
-    let v = c.before.before.before.before in
-    let a = v.before.before.before.before.before in
+    let v = c.before.before.before in
+    let a = v.before.before.before.before in
     let s = begun (started a) in
-    (v.leave.ensures.since.elsewhere.long ∙ a.loop.invariant.0, else-trans s.args.x a.loop.invariant.1 v.leave.ensures.since.elsewhere, c.long2.ensures, v.leave.ensures.ready)
+    (v.leave-root.ensures.since.elsewhere.long ∙ a.loop-key.invariant.0, else-trans s.args.x a.loop-key.invariant.1 v.leave-root.ensures.since.elsewhere, c.long-key-in-loop-key.ensures, v.leave-root.ensures.ready)
 
-same_length : tie.Need-same-length invariant-loop decreases-loop
+same_length : tie.Need-shape_of-room invariant-loop-key decreases-loop-key
 same_length c = search rules
 
-returns : tie.Need-returns invariant-loop decreases-loop
+returns : tie.Need-returns invariant-loop-key decreases-loop-key
 unfolding reversed
 returns c =
     let a = c.before in
     let p = started a in
     let s = begun p in
-    (else-trans s.args.x p.start.ensures.elsewhere a.loop.invariant.1, ready-found (net s) s.args.goal s.args.x a.loop.room a.loop.root a.loop.invariant.3 (omega (arith, c.loop-test.false, a.loop.invariant.2)))
+    (else-trans s.args.x p.start-root.ensures.elsewhere a.loop-key.invariant.1, ready-found (net s) s.args.goal s.args.x a.loop-key.room a.loop-key.root a.loop-key.invariant.3 (omega (arith, c.loop-key-test.false, a.loop-key.invariant.2)))
 
 pub search_spec : {M : Type 1} → statement M
 search_spec =
     tie.close
     (tie.spec
-    invariant-loop
-    decreases-loop
+    invariant-loop-key
+    decreases-loop-key
     (λ c κs. search rules)
     long-requires
     loop-holds

@@ -16,87 +16,87 @@ use Rattle.reach.proofs.ForwardLaws.{end-node, forward-first, forward-pass, forw
 use Rattle.reach.proofs.forward.leave.Statement.{statement}
 use Rattle.reach.proofs.forward.leave.Tie as tie
 
-abbrev invariant-loop : tie.invariant-loop
-invariant-loop table closed nodes s x room₀ u first n v d root₀ end a₀ room root a =
+abbrev invariant-loop-a : tie.invariant-loop-a
+invariant-loop-a table closed nodes s x room₀ u first n v d root₀ end a₀ room root a =
     (run_start table u ≤ a) × (length room ≡ length room₀) × Turn (net_of nodes table closed) s x room₀ room root u d a
 
-abbrev decreases-loop : tie.decreases-loop
-decreases-loop table closed nodes s x room₀ u first n v d root₀ end a₀ room root a = end - a
+abbrev decreases-loop-a : tie.decreases-loop-a
+decreases-loop-a table closed nodes s x room₀ u first n v d root₀ end a₀ room root a = end - a
 
-abbrev begun : tie.After-set-key invariant-loop decreases-loop → tie.Start invariant-loop decreases-loop
-begun k = k.before.before.before.before.before.before.before
+abbrev begun : tie.After-set_key-root invariant-loop-a decreases-loop-a → tie.Start invariant-loop-a decreases-loop-a
+begun k = k.before.before.before.before.before.before
 
-abbrev keyed : tie.After-slice-known2 invariant-loop decreases-loop → tie.After-set-key invariant-loop decreases-loop
+abbrev keyed : tie.After-slice_known-2-1 invariant-loop-a decreases-loop-a → tie.After-set_key-root invariant-loop-a decreases-loop-a
 keyed r = r.before.before
 
-abbrev net : tie.Start invariant-loop decreases-loop → Net
+abbrev net : tie.Start invariant-loop-a decreases-loop-a → Net
 net s = net_of s.args.nodes s.args.table.now s.args.closed.now
 
-long-requires : tie.Need-long-requires invariant-loop decreases-loop
+long-requires : tie.Need-long-d-requires invariant-loop-a decreases-loop-a
 long-requires c κs =
-    let s = c.before.before.before.before in
+    let s = c.before.before.before in
     let q = s.requires.1.looking in
     (record-in s.args.nodes s.args.room.now s.args.u q.queue.roomy q.queue.root.used, q.stands.dist-in)
 
-set-key-requires : tie.Need-set-key-requires invariant-loop decreases-loop
+set-key-requires : tie.Need-set_key-root-requires invariant-loop-a decreases-loop-a
 set-key-requires c κs =
-    let s = c.before.before.before.before.before.before in
+    let s = c.before.before.before.before.before in
     let q = s.requires.1.looking.queue in
     (q.roomy, q.root.used, q.tree)
 
 -- the turn as it begins
-begins : (k : tie.After-set-key invariant-loop decreases-loop)
-    → Turn (net (begun k)) (begun k).args.s (begun k).args.x (begun k).args.room.now k.set_key.new.0 k.set_key.result (begun k).args.u k.before.before.long.result 0
+begins : (k : tie.After-set_key-root invariant-loop-a decreases-loop-a)
+    → Turn (net (begun k)) (begun k).args.s (begun k).args.x (begun k).args.room.now k.set_key-root.new.room k.set_key-root.result (begun k).args.u k.long-d.result 0
 begins k =
     let s = begun k in
-    turn-begin (net s) s.args.s s.args.x s.args.room.now s.args.u s.pre.1 s.pre.2 k.set_key.new.0 k.set_key.result k.set_key.ensures k.before.before.long.result k.before.before.long.ensures
+    turn-begin (net s) s.args.s s.args.x s.args.room.now s.args.u s.requires.1 s.requires.2 k.set_key-root.new.room k.set_key-root.result k.set_key-root.ensures k.long-d.result k.long-d.ensures
 
-loop-holds : tie.Need-loop-init invariant-loop decreases-loop
+loop-holds : tie.Need-loop-a-init invariant-loop-a decreases-loop-a
 loop-holds c =
     let k = keyed c in
     let s = begun k in (
-      omega (arith, s.pre.3),
+      omega (arith, s.requires.3),
       refl,
-      forward-first s.args.nodes s.args.table.now s.args.closed.now s.pre.0 s.args.s s.args.x k.set_key.last.0 k.set_key.last.0 k.set_key.result s.args.u
-          k.before.before.long.result s.args.first s.pre.3
-          (turn-anew (net s) s.args.s s.args.x s.args.room.now k.set_key.last.0 k.set_key.result s.args.u k.before.before.long.result 0 (begins k)),
+      forward-first s.args.nodes s.args.table.now s.args.closed.now s.requires.0 s.args.s s.args.x k.set_key-root.new.room k.set_key-root.new.room k.set_key-root.result s.args.u
+          k.long-d.result s.args.first s.requires.3
+          (turn-anew (net s) s.args.s s.args.x s.args.room.now k.set_key-root.new.room k.set_key-root.result s.args.u k.long-d.result 0 (begins k)),
     )
 
-abbrev settled : tie.At-loop invariant-loop decreases-loop → tie.After-set-key invariant-loop decreases-loop
+abbrev settled : tie.At-loop-a invariant-loop-a decreases-loop-a → tie.After-set_key-root invariant-loop-a decreases-loop-a
 settled a = keyed a.before
 
-returns : tie.Need-returns invariant-loop decreases-loop
+returns : tie.Need-returns-then-from_of-v invariant-loop-a decreases-loop-a
 returns c =
     let a = c.before.before.before in
     let k = settled a in
     let s = begun k in
-    over-since (net s) s.args.s s.args.x s.args.room.now k.set_key.last.0 a.loop.room a.loop.root s.args.u (begins k).since
-    (forward-over s.args.nodes s.args.table.now s.args.closed.now s.pre.0 s.args.s s.args.x k.set_key.last.0 a.loop.room a.loop.root s.args.u
-    k.before.before.long.result a.loop.a a.loop.invariant.0 a.loop.invariant.2 (λ e. c.if1.true (c.before.from-of.ensures ∙ e)))
+    over-since (net s) s.args.s s.args.x s.args.room.now k.set_key-root.new.room a.loop-a.room a.loop-a.root s.args.u (begins k).since
+    (forward-over s.args.nodes s.args.table.now s.args.closed.now s.requires.0 s.args.s s.args.x k.set_key-root.new.room a.loop-a.room a.loop-a.root s.args.u
+    k.long-d.result a.loop-a.a a.loop-a.invariant.0 a.loop-a.invariant.2 (λ e. c.if-from_of-v.true (c.from_of.ensures ∙ e)))
 
-add-pass : tie.Need-overflow-add-pass invariant-loop decreases-loop
+add-pass : tie.Need-overflow_add-d invariant-loop-a decreases-loop-a
 add-pass c =
     let a = c.before.before.before.before.before.before in
     let k = settled a in
     let s = begun k in
-    omega (arith, turn-far (net s) s.args.s s.args.x k.set_key.last.0 a.loop.room a.loop.root s.args.u k.before.before.long.result a.loop.a a.loop.invariant.2)
+    omega (arith, turn-far (net s) s.args.s s.args.x k.set_key-root.new.room a.loop-a.room a.loop-a.root s.args.u k.long-d.result a.loop-a.a a.loop-a.invariant.2)
 
 -- the arc's end is a node
-end-in : (c : tie.After-to-of invariant-loop decreases-loop) → c.to-of.result < (begun (settled c.before.before.before.before)).args.nodes
+end-in : (c : tie.After-to_of-w invariant-loop-a decreases-loop-a) → c.to_of-w.result < (begun (settled c.before.before.before.before)).args.nodes
 end-in c =
     let i = c.before.before.before in
     let s = begun (settled i.before) in
-    omega (arith, c.to-of.ensures, end-node s.args.nodes s.args.table.now s.pre.0 i.before.loop.a i.loop-test.true)
+    omega (arith, c.to_of-w.ensures, end-node s.args.nodes s.args.table.now s.requires.0 i.loop-a.a i.loop-a-test.true)
 
-pass-requires : tie.Need-pass-requires invariant-loop decreases-loop
+pass-requires : tie.Need-pass-root-requires invariant-loop-a decreases-loop-a
 pass-requires c κs =
     let o = c.before.before in
     let i = o.before.before.before in
     let s = begun (settled i.before) in
-    let q = i.before.loop.invariant.2.looking in
-    (q.stands, q.queue, end-in o, omega (arith, i.loop-test.true, (good-size s.args.nodes s.args.table.now s.pre.0).3))
+    let q = i.loop-a.invariant.2.looking in
+    (q.stands, q.queue, end-in o, omega (arith, i.loop-a-test.true, (good-size s.args.nodes s.args.table.now s.requires.0).3))
 
-loop-again : tie.Need-loop-preserved invariant-loop decreases-loop
+loop-again : tie.Need-loop-a-preserved invariant-loop-a decreases-loop-a
 loop-again c =
     let o = c.before.before in
     let g = o.before.before in
@@ -106,39 +106,39 @@ loop-again c =
     let a = i.before in
     let k = settled a in
     let s = begun k in
-    let d = k.before.before.long.result in (
-      omega (arith, a.loop.invariant.0),
+    let d = k.long-d.result in (
+      omega (arith, a.loop-a.invariant.0),
       search rules,
-      forward-pass s.args.nodes s.args.table.now s.args.closed.now s.pre.0 s.args.s s.args.x k.set_key.last.0 a.loop.room a.loop.root s.args.u d a.loop.a a.loop.invariant.0
-          a.loop.invariant.2 i.loop-test.true (sym e.before.from-of.ensures ∙ e.if1.false) t.to-of.result (d + g.length-of.result) t.to-of.ensures (end-in t) (omega (arith, g.length-of.ensures))
-          o.pass.new.1.0 o.pass.result o.pass.ensures,
+      forward-pass s.args.nodes s.args.table.now s.args.closed.now s.requires.0 s.args.s s.args.x k.set_key-root.new.room a.loop-a.room a.loop-a.root s.args.u d a.loop-a.a a.loop-a.invariant.0
+          a.loop-a.invariant.2 i.loop-a-test.true (sym e.from_of.ensures ∙ e.if-from_of-v.false) t.to_of-w.result (d + g.length_of-len.result) t.to_of-w.ensures (end-in t) (omega (arith, g.length_of-len.ensures))
+          o.pass-root.new.room o.pass-root.result o.pass-root.ensures,
     )
 
-returns-2 : tie.Need-returns-2 invariant-loop decreases-loop
+returns-2 : tie.Need-returns invariant-loop-a decreases-loop-a
 returns-2 c =
     let a = c.before in
     let k = settled a in
     let s = begun k in
-    over-since (net s) s.args.s s.args.x s.args.room.now k.set_key.last.0 a.loop.room a.loop.root s.args.u (begins k).since
-    (forward-end s.args.nodes s.args.table.now s.args.closed.now s.pre.0 s.args.s s.args.x k.set_key.last.0 a.loop.room a.loop.root s.args.u
-    k.before.before.long.result a.loop.a a.loop.invariant.0 a.loop.invariant.2 (omega (arith, c.loop-test.false)))
+    over-since (net s) s.args.s s.args.x s.args.room.now k.set_key-root.new.room a.loop-a.room a.loop-a.root s.args.u (begins k).since
+    (forward-end s.args.nodes s.args.table.now s.args.closed.now s.requires.0 s.args.s s.args.x k.set_key-root.new.room a.loop-a.room a.loop-a.root s.args.u
+    k.long-d.result a.loop-a.a a.loop-a.invariant.0 a.loop-a.invariant.2 (omega (arith, c.loop-a-test.false)))
 
 pub leave_spec : {M : Type 1} → statement M
 leave_spec =
     tie.close
     (tie.spec
-    invariant-loop
-    decreases-loop
+    invariant-loop-a
+    decreases-loop-a
     (λ c. search rules)
     long-requires
     set-key-requires
     loop-holds
-    (λ c κs. c.loop-test.true)
+    (λ c κs. c.loop-a-test.true)
     (λ c. search rules)
     returns
-    (λ c κs. c.before.before.loop-test.true)
+    (λ c κs. c.loop-a-test.true)
     (λ c. search rules)
-    (λ c κs. c.before.before.before.loop-test.true)
+    (λ c κs. c.loop-a-test.true)
     (λ c. search rules)
     add-pass
     pass-requires

@@ -11,28 +11,28 @@ first p = p.before.before.before
 abbrev cleared : tie.After-fill → tie.After-clear
 cleared p = p.before.before.before.before
 
-abbrev filled : tie.After-put-long → tie.After-fill
+abbrev filled : tie.After-put_long → tie.After-fill
 filled p = p.before.before.before.before
 
 fill-requires : tie.Need-fill-requires
 fill-requires c κs = let p = c.before.before.before in roomy-same (first p).args.n p.clear.ensures.within.long (first p).requires.1
 
-put-long-requires : tie.Need-put-long-requires
+put-long-requires : tie.Need-put_long-requires
 put-long-requires c κs =
     let q = c.before.before.before in
     let p = cleared q in
     let s = first p in
-    (record-in s.args.n q.fill.new.0 s.args.s (roomy-same s.args.n (q.fill.ensures.within.long ∙ p.clear.ensures.within.long) s.pre.1) s.pre.2, s.pre.0.dist-in)
+    (record-in s.args.n q.fill.new.room s.args.s (roomy-same s.args.n (q.fill.ensures.within.long ∙ p.clear.ensures.within.long) s.requires.1) s.requires.2, s.requires.0.dist-in)
 
-set-key-requires : tie.Need-set-key-requires
+set-key-requires : tie.Need-set_key-requires
 set-key-requires c κs =
     let r = c.before.before.before in
     let q = filled r in
     let p = cleared q in
     let s = first p in (
-      begin-roomy s.args.x s.pre.0 s.args.n s.args.room.now p.clear.last.0 q.fill.last.0 _ s.args.s p.clear.ensures q.fill.ensures r.put-long.ensures s.pre.1,
-      s.pre.2,
-      begin-tree s.args.x s.pre.0 s.args.n s.args.room.now p.clear.last.0 q.fill.last.0 _ s.args.s p.clear.ensures q.fill.ensures r.put-long.ensures,
+      begin-roomy s.args.x s.requires.0 s.args.n s.args.room.now p.clear.new.room q.fill.new.room _ s.args.s p.clear.ensures q.fill.ensures r.put_long.ensures s.requires.1,
+      s.requires.2,
+      begin-tree s.args.x s.requires.0 s.args.n s.args.room.now p.clear.new.room q.fill.new.room _ s.args.s p.clear.ensures q.fill.ensures r.put_long.ensures,
     )
 
 returns : tie.Need-returns
@@ -42,8 +42,8 @@ returns c =
     let q = filled r in
     let p = cleared q in
     let s = first p in
-    begun s.args.x s.pre.0 s.args.n s.args.room.now p.clear.last.0 q.fill.last.0 r.put-long.new.0 s.args.s p.clear.ensures q.fill.ensures r.put-long.ensures
-    s.pre.1 s.pre.2 _ _ k.set_key.ensures
+    begun s.args.x s.requires.0 s.args.n s.args.room.now p.clear.new.room q.fill.new.room r.put_long.new.room s.args.s p.clear.ensures q.fill.ensures r.put_long.ensures
+    s.requires.1 s.requires.2 _ _ k.set_key.ensures
 
 pub start_spec : {M : Type 1} → statement M
 start_spec = tie.close (tie.spec (λ c κs. search rules) fill-requires put-long-requires set-key-requires (λ c. search rules) returns)

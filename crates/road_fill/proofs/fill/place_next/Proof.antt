@@ -16,15 +16,15 @@ then m n x y e = rw (eq-eqb m n e)
 else : (m n : ℕ) (x y : List ℕ) → m ≢ n → cond (eqb m n) x y ≡ y
 else m n x y ne = rw (ne_eqb m n ne)
 
-returns : tie.Need-returns
+returns : tie.Need-returns-then-r-before
 returns c =
-    let a = c.before.before.before.before.before.before.before.args in
-    c.before.before.place.ensures ∙ sym (else a.r.count a.before _ _ c.before.before.before.before.if1.true)
+    let a = c.args in
+    c.place.ensures ∙ sym (else a.r.count a.before _ _ c.if-r-before.true)
 
-returns-2 : tie.Need-returns-2
+returns-2 : tie.Need-returns-else-r-before
 returns-2 c =
-    let a = c.before.before.before.args in
-    sym (then a.r.count a.before _ _ c.if1.false)
+    let a = c.args in
+    sym (then a.r.count a.before _ _ c.if-r-before.false)
 
 pub place_next_spec : {M : Type 1} → statement M
 place_next_spec = tie.close (tie.spec (λ c κs. search rules) (λ c. search rules) returns returns-2)

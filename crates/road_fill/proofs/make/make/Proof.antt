@@ -13,22 +13,22 @@ use Rattle.road_fill.proofs.make.make.Tie as tie
 
 fill-requires : tie.Need-fill-requires
 fill-requires c κs =
-    let s = c.before.before.before in
+    let s = c in
     let room : length (feed unfed s.args.text.now).said.arcs * 16 ≤ length s.args.table.now = omega (arith, s.requires.0, s.requires.1) in
     room
 
 sort-requires : tie.Need-sort-requires
 sort-requires c κs =
-    let f = c.before.before.before in
-    let s = f.before.before.before.before in
+    let f = c in
+    let s = f in
     placed_at (feed unfed s.args.text.now).said.arcs s.args.table.now _ s.args.n s.requires.0 f.fill.ensures s.requires.1 s.requires.2
 
 returns : tie.Need-returns
 returns c =
-    let k = c.before.before in
-    let m = k.before.before.before.before in
-    let f = m.before.before.before.before in
-    let s = f.before.before.before.before in
+    let k = c in
+    let m = k in
+    let f = m in
+    let s = f in
     let n = s.args.n in
     k.clear.ensures
     ∙ ap (cleared n) (m.sort.ensures ∙ ap (sorted_table n) f.fill.ensures)

@@ -10,30 +10,30 @@ use Rattle.search_cursor.proofs.QueueLaws.{key-some, key-none}
 use Rattle.search_cursor.proofs.store.store.Statement.{statement}
 use Rattle.search_cursor.proofs.store.store.Tie as tie
 
-abbrev start : tie.Else1 → tie.Start
+abbrev start : tie.Else-arc-eq-NO_ARC → tie.Start
 start e = e.before.before.before
 
-returns : tie.Need-returns
+returns : tie.Need-returns-then-arc-eq-NO_ARC
 returns c =
-    let p = c.before.before in
-    let s = p.before.before.before.before.before in
-    p.put-own.ensures
-    ∙ ap (put_own s.args.labels.now s.args.c.label s.args.c.arc) (sym (key-none (arcs_of s.args.table.now) (chain_at s.args.labels.now s.args.c.label) s.args.c.arc p.before.before.if1.true))
+    let p = c in
+    let s = p in
+    p.put_own.ensures
+    ∙ ap (put_own s.args.labels.now s.args.c.label s.args.c.arc) (sym (key-none (arcs_of s.args.table.now) (chain_at s.args.labels.now s.args.c.label) s.args.c.arc p.if-arc-eq-NO_ARC.true))
 
-length-of-requires : tie.Need-length-of-requires
+length-of-requires : tie.Need-length_of-key-requires
 length-of-requires c κs =
-    let s = start c.before in
-    (s.pre.0, record { label-below = s.pre.1; arc-below = s.pre.2 c.before.if1.false })
+    let s = start c in
+    (s.requires.0, record { label-below = s.requires.1; arc-below = s.requires.2 c.if-arc-eq-NO_ARC.false })
 
-returns-2 : tie.Need-returns-2
+returns-2 : tie.Need-returns
 returns-2 c =
-    let p = c.before.before in
-    let l = p.before.before in
-    let e = l.before.before in
+    let p = c in
+    let l = p in
+    let e = l.before.before.before.before.before in
     let s = start e in
-    p.put-own2.ensures
+    p.put_own-2.ensures
     ∙ ap (put_own s.args.labels.now s.args.c.label s.args.c.arc)
-    (l.length-of.ensures ∙ sym (key-some (arcs_of s.args.table.now) (chain_at s.args.labels.now s.args.c.label) s.args.c.arc e.if1.false))
+    (l.length_of-key.ensures ∙ sym (key-some (arcs_of s.args.table.now) (chain_at s.args.labels.now s.args.c.label) s.args.c.arc e.if-arc-eq-NO_ARC.false))
 
 pub store_spec : {M : Type 1} → statement M
 store_spec =
@@ -44,7 +44,7 @@ store_spec =
     (λ c. search rules)
     returns
     length-of-requires
-    (λ c. let e = c.before.before.before in omega (arith, few-records (start e).requires.0.accepted, (start e).requires.2 e.if1.false))
+    (λ c. let e = c in omega (arith, few-records e.requires.0.accepted, e.requires.2 e.if-arc-eq-NO_ARC.false))
     (λ c κs. search rules)
     (λ c. search rules)
     returns-2)

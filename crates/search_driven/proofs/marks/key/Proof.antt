@@ -7,13 +7,13 @@ use Rattle.search_driven.specs.Marks.{key_at}
 use Rattle.search_driven.proofs.marks.key.Statement.{statement}
 use Rattle.search_driven.proofs.marks.key.Tie as tie
 
-returns : tie.Need-returns
+returns : tie.Need-returns-then-number-eq0
 unfolding key_at
-returns c = rw (eq-eqb _ 0 (sym c.before.road-of.ensures ∙ c.if1.true))
+returns c = rw (eq-eqb _ 0 (sym c.road_of-number.ensures ∙ c.if-number-eq0.true))
 
-returns-2 : tie.Need-returns-2
+returns-2 : tie.Need-returns
 unfolding key_at
-returns-2 c = rw (ne_eqb _ 0 (λ z. c.if1.false (c.before.road-of.ensures ∙ z))) c.before.road-of.ensures
+returns-2 c = rw (ne_eqb _ 0 (λ z. c.if-number-eq0.false (c.road_of-number.ensures ∙ z))) c.road_of-number.ensures
 
 pub key_spec : {M : Type 1} → statement M
 key_spec = tie.close (tie.spec (λ c κs. search rules) (λ c. search rules) returns returns-2)

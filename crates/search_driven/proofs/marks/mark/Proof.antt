@@ -10,19 +10,19 @@ use Rattle.search_driven.proofs.MarksLaws.{length-mark}
 use Rattle.search_driven.proofs.marks.mark.Statement.{statement}
 use Rattle.search_driven.proofs.marks.mark.Tie as tie
 
-made : (c : tie.After-set) → c.set.new.0 ≡ with_mark c.before.before.before.before.before.before.args.marks.now (place_at c.before.before.before.before.before.before.args.table.now c.before.before.before.before.before.before.args.word)
+made : (c : tie.After-set) → c.set.new.marks ≡ with_mark c.args.marks.now (place_at c.args.table.now c.args.word)
 made c =
-    let s = c.before.before.before.before.before.before in
-    c.set.ensures ∙ ap (λ x. with_mark s.args.marks.now (x % mark_bits)) c.before.key.ensures
+    let s = c in
+    c.set.ensures ∙ ap (λ x. with_mark s.args.marks.now (x % mark_bits)) c.key.ensures
 
-same_length : tie.Need-same-length
+same_length : tie.Need-shape_of-marks
 same_length c = ap length (made c.before.before) ∙ length-mark _ _
 
-returns : tie.Need-returns
-returns c = rw (lt-ltb _ _ c.before.before.before.before.before.if1.true) (made c.before.before)
+returns : tie.Need-returns-then-arc-table
+returns c = rw (lt-ltb _ _ c.if-arc-table.true) (made c.before.before)
 
-returns-2 : tie.Need-returns-2
-returns-2 c = rw (le-ltb _ _ c.if1.false)
+returns-2 : tie.Need-returns-else-arc-table
+returns-2 c = rw (le-ltb _ _ c.if-arc-table.false)
 
 pub mark_spec : {M : Type 1} → statement M
 mark_spec = tie.close (tie.spec (λ c κs. search rules) (λ c. search rules) (λ c κs. search rules) same_length returns returns-2)

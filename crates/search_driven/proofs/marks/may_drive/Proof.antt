@@ -9,8 +9,8 @@ use Rattle.search_driven.proofs.marks.may_drive.Tie as tie
 
 returns : tie.Need-returns
 returns c =
-    let k = c.before in
-    let s = k.before.before.before in
+    let k = c in
+    let s = k in
     c.is_set.ensures ∙ ap (λ x. marked s.args.marks.now (x % mark_bits)) k.key.ensures
 
 pub may_drive_spec : {M : Type 1} → statement M

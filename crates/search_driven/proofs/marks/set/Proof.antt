@@ -9,7 +9,7 @@ use Rattle.search_driven.proofs.marks.set.Tie as tie
 
 returns : tie.Need-returns
 unfolding with_mark
-returns c = rw (one_shifted (c.before.args.h % 64) (omega arith))
+returns c = rw (one_shifted (c.args.h % 64) (omega arith))
 
 pub set_spec : {M : Type 1} → statement M
 set_spec = tie.close (tie.spec (λ c. search rules) (λ c. search rules) (λ c. search rules) (λ c. search rules) (λ c. search rules) (λ c. search rules) returns)

@@ -5,15 +5,15 @@ use Rattle.search_lists.proofs.HeadLaws.{place_after, place-before}
 use Rattle.search_lists.proofs.head.place.Statement.{statement}
 use Rattle.search_lists.proofs.head.place.Tie as tie
 
-returns : tie.Need-returns
+returns : tie.Need-returns-then-ask-v
 returns c =
-    let s = c.before.before.before in
-    (rw (place_after s.args.ask.s s.args.v c.if1.true), omega (arith, s.requires, c.if1.true))
+    let s = c in
+    (rw (place_after s.args.ask.s s.args.v c.if-ask-v.true), omega (arith, s.requires, c.if-ask-v.true))
 
-returns-2 : tie.Need-returns-2
+returns-2 : tie.Need-returns
 returns-2 c =
-    let s = c.before.before.before in
-    (rw (place-before s.args.ask.s s.args.v c.if1.false), omega (arith, s.requires, c.if1.false))
+    let s = c in
+    (rw (place-before s.args.ask.s s.args.v c.if-ask-v.false), omega (arith, s.requires, c.if-ask-v.false))
 
 pub place_spec : {M : Type 1} → statement M
 place_spec =

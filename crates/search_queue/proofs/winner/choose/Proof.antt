@@ -9,5 +9,5 @@ choose_spec =
     tie.close
     (tie.spec
     (λ c κs. search rules)
-    (λ c. chosen-second _ _ _ _ c.before.is-sooner.ensures c.if1.true)
-    (λ c. chosen-first _ _ _ _ c.before.is-sooner.ensures c.if1.false))
+    (λ c. chosen-second _ _ _ _ c.before.is_sooner.ensures c.if-is_sooner.true)
+    (λ c. chosen-first _ _ _ _ c.before.is_sooner.ensures c.if-is_sooner.false))

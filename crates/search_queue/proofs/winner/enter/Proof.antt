@@ -15,67 +15,67 @@ use Rattle.search_queue.proofs.EnterLaws.{enter-start, half-most, enters-only, e
 use Rattle.search_queue.proofs.winner.enter.Statement.{statement}
 use Rattle.search_queue.proofs.winner.enter.Tie as tie
 
-abbrev invariant-loop : tie.invariant-loop
-invariant-loop b n root j₀ half₀ j half = (Climbs (NotAfter b) (winner_at b) (n + 1) n half j n) × (n ≡ j * half)
+abbrev invariant-loop-j : tie.invariant-loop-j
+invariant-loop-j b n root j₀ half₀ j half = (Climbs (NotAfter b) (winner_at b) (n + 1) n half j n) × (n ≡ j * half)
 
-abbrev decreases-loop : tie.decreases-loop
-decreases-loop b n root j₀ half₀ j half = j
+abbrev decreases-loop-j : tie.decreases-loop-j
+decreases-loop-j b n root j₀ half₀ j half = j
 
-abbrev start : tie.At-loop invariant-loop decreases-loop → tie.Start invariant-loop decreases-loop
+abbrev start : tie.At-loop-j invariant-loop-j decreases-loop-j → tie.Start invariant-loop-j decreases-loop-j
 start a = a.before.before
 
-most : (a : tie.At-loop invariant-loop decreases-loop) → (0 < a.loop.j) × (a.loop.half ≤ (start a).args.n)
-most a = half-most a.loop.invariant.1 (omega (arith, (start a).requires.3.used))
+most : (a : tie.At-loop-j invariant-loop-j decreases-loop-j) → (0 < a.loop-j.j) × (a.loop-j.half ≤ (start a).args.n)
+most a = half-most a.loop-j.invariant.1 (omega (arith, (start a).requires.3.used))
 
-loop-again : tie.Need-loop-preserved invariant-loop decreases-loop
+loop-again : tie.Need-loop-j-preserved invariant-loop-j decreases-loop-j
 loop-again c =
     let a = c.before in
-    let v = a.loop.invariant in
-    let j = a.loop.j in
+    let v = a.loop-j.invariant in
+    let j = a.loop-j.j in
     let e : j ≡ j / 2 * 2 = omega arith in
-    ((level-past _ v.0 (omega arith) (omega (arith, v.1, half_pos _ v.0))).1, omega (arith, v.1, ap (λ z. z * a.loop.half) e))
+    ((level-past _ v.0 (omega arith) (omega (arith, v.1, half_pos _ v.0))).1, omega (arith, v.1, ap (λ z. z * a.loop-j.half) e))
 
-join-requires : tie.Need-join-requires invariant-loop decreases-loop
+join-requires : tie.Need-join-u-requires invariant-loop-j decreases-loop-j
 join-requires c κs =
     let a = c.before.before in
     let s = start a in
-    (s.pre.0, s.pre.1, s.pre.2, a.loop.invariant.0, a.loop.invariant.1, omega (arith, c.before.loop-test.false))
+    (s.requires.0, s.requires.1, s.requires.2, a.loop-j.invariant.0, a.loop-j.invariant.1, omega (arith, c.before.loop-j-test.false))
 
-abbrev begun : tie.After-join invariant-loop decreases-loop → tie.Start invariant-loop decreases-loop
+abbrev begun : tie.After-join-u invariant-loop-j decreases-loop-j → tie.Start invariant-loop-j decreases-loop-j
 begun c = start c.before.before.before
 
-returns : tie.Need-returns invariant-loop decreases-loop
+returns : tie.Need-returns-then-u-n invariant-loop-j decreases-loop-j
 returns c =
     let d = c.before.before.before in
-    let o = d.join.ensures.0 in
-    let e = d.join.ensures.1 in
-    let k = enters-stop _ (enters-only o e) _ (omega (arith, e.enter.climb.wins.used, c.if1.true)) (first-near _ _ (not-after-only o) (begun d).requires.3) in
+    let o = d.join-u.ensures.0 in
+    let e = d.join-u.ensures.1 in
+    let k = enters-stop _ (enters-only o e) _ (omega (arith, e.enter.climb.wins.used, c.if-u-n.true)) (first-near _ _ (not-after-only o) (begun d).requires.3) in
     (o, k.0, k.1)
 
-rise-requires : tie.Need-rise-requires invariant-loop decreases-loop
+rise-requires : tie.Need-rise-requires invariant-loop-j decreases-loop-j
 rise-requires c κs =
     let d = c.before.before.before.before in
     let s = begun d in
-    let o = d.join.ensures.0 in (
-      comparable-only (only-working o) _ s.pre.0,
-      s.pre.1,
-      first-near _ _ (not-after-only o) s.pre.3,
-      enters-same c.before.if1.false (enters-only o d.join.ensures.1),
+    let o = d.join-u.ensures.0 in (
+      comparable-only (only-working o) _ s.requires.0,
+      s.requires.1,
+      first-near _ _ (not-after-only o) s.requires.3,
+      enters-same c.before.if-u-n.false (enters-only o d.join-u.ensures.1),
     )
 
-returns-2 : tie.Need-returns-2 invariant-loop decreases-loop
+returns-2 : tie.Need-returns invariant-loop-j decreases-loop-j
 returns-2 c =
     let r = c.before.before in
     let d = r.before.before.before.before.before in
     let e = r.rise.ensures in
-    (only-trans d.join.ensures.0 e.0, e.1, e.2)
+    (only-trans d.join-u.ensures.0 e.0, e.1, e.2)
 
 pub enter_spec : {M : Type 1} → statement M
 enter_spec =
     tie.close
     (tie.spec
-    invariant-loop
-    decreases-loop
+    invariant-loop-j
+    decreases-loop-j
     (λ c. (enter-start _ _ c.before.requires.2, omega arith))
     (λ c. omega (arith, most c.before))
     (λ c. omega (arith, (most c.before).0))

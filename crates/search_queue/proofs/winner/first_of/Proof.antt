@@ -10,22 +10,22 @@ use Rattle.search_queue.proofs.ClimbLaws.{block-alone, block-middle}
 use Rattle.search_queue.proofs.winner.first_of.Statement.{statement}
 use Rattle.search_queue.proofs.winner.first_of.Tie as tie
 
-abbrev start : tie.Else1 → tie.Start
+abbrev start : tie.Else-s-eq1 → tie.Start
 start c = c.before.before.before
 
-returns : tie.Need-returns
+returns : tie.Need-returns-then-s-eq1
 returns c =
     let s = c.before.before.before in
-    block-alone _ s.requires.4 _ _ s.requires.6 c.before.narrow.ensures c.if1.true
+    block-alone _ s.requires.4 _ _ s.requires.6 c.before.narrow-s.ensures c.if-s-eq1.true
 
-middle : (c : tie.Else1)
+middle : (c : tie.Else-s-eq1)
     → let s = start c in
-    let at = s.args.e + c.before.narrow.result / 2 in
+    let at = s.args.e + c.before.narrow-s.result / 2 in
     let l = s.args.labels.now in
     (at < s.args.n) × First (NotAfter l) s.args.n s.args.e (s.args.e + s.args.half) (winner_at l at)
 middle c =
     let s = start c in
-    block-middle _ s.pre.4 _ _ s.pre.6 c.before.narrow.ensures c.if1.false
+    block-middle _ s.requires.4 _ _ s.requires.6 c.before.narrow-s.ensures c.if-s-eq1.false
 
 pub first_of_spec : {M : Type 1} → statement M
 first_of_spec =

@@ -7,19 +7,19 @@ use Rattle.search_queue.proofs.OrderLaws.{sooner-less, sooner-more, sooner-even}
 use Rattle.search_queue.proofs.winner.is_sooner.Statement.{statement}
 use Rattle.search_queue.proofs.winner.is_sooner.Tie as tie
 
-returns : tie.Need-returns
-returns c = sym (sooner-less _ _ _ _ _ c.before.before.key.ensures c.before.key2.ensures c.if1.true)
+returns : tie.Need-returns-then-k-m
+returns c = sym (sooner-less _ _ _ _ _ c.before.before.key-k.ensures c.before.key-m.ensures c.if-k-m.true)
 
-returns-2 : tie.Need-returns-2
+returns-2 : tie.Need-returns-then-m-k
 returns-2 c =
     let d = c.before.before in
-    sym (sooner-more _ _ _ _ _ d.before.key.ensures d.key2.ensures c.if2.true)
+    sym (sooner-more _ _ _ _ _ d.before.key-k.ensures d.key-m.ensures c.if-m-k.true)
 
-returns-3 : tie.Need-returns-3
+returns-3 : tie.Need-returns
 unfolding own_at
 returns-3 c =
     let d = c.before.before.before.before.before in
-    cc (sooner-even _ _ _ _ _ d.before.key.ensures d.key2.ensures (omega arith) (omega arith))
+    cc (sooner-even _ _ _ _ _ d.before.key-k.ensures d.key-m.ensures (omega arith) (omega arith))
 
 pub is_sooner_spec : {M : Type 1} → statement M
 is_sooner_spec =

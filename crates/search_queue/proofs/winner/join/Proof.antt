@@ -12,9 +12,9 @@ use Rattle.search_queue.proofs.winner.join.Tie as tie
 small : (s : tie.Start) → s.args.half ≤ s.args.n
 small s = omega (arith, odd-before _ s.requires.3 s.requires.5, s.requires.4)
 
-first-of-requires : tie.Need-first-of-requires
+first-of-requires : tie.Need-first_of-v-requires
 first-of-requires c κs =
-    let s = c.before.before in (
+    let s = c.before in (
       s.requires.0,
       omega arith,
       omega arith,
@@ -24,25 +24,25 @@ first-of-requires c κs =
       omega arith,
     )
 
-abbrev start : tie.After-choose → tie.Start
-start c = c.before.before.before.before.before
+abbrev start : tie.After-choose-u → tie.Start
+start c = c.before.before.before
 
-used : (c : tie.After-choose) → c.choose.result < (start c).args.n + 1
-used c = chosen-used _ _ _ _ _ c.choose.ensures c.before.before.first_of.ensures.used (omega arith)
+used : (c : tie.After-choose-u) → c.choose-u.result < (start c).args.n + 1
+used c = chosen-used _ _ _ _ _ c.choose-u.ensures c.before.first_of-v.ensures.used (omega arith)
 
 returns : tie.Need-returns
 returns c =
     let d = c.before.before.before.before in
     let s = start d in
-    enters-join _ s.pre.3 s.pre.2 (omega (arith, s.pre.0.down.room)) s.pre.1 s.pre.4 s.pre.5 _ _
-    d.before.before.first_of.ensures d.choose.ensures (used d) _ c.before.before.put-winner.ensures
+    enters-join _ s.requires.3 s.requires.2 (omega (arith, s.requires.0.down.room)) s.requires.1 s.requires.4 s.requires.5 _ _
+    d.before.first_of-v.ensures d.choose-u.ensures (used d) _ c.before.before.put_winner.ensures
 
 pub join_spec : {M : Type 1} → statement M
 join_spec =
     tie.close
     (tie.spec
     (λ c. search rules)
-    (λ c. omega (arith, small c.before.before))
+    (λ c. omega (arith, small c.before))
     first-of-requires
     (λ c. search rules)
     (λ c κs. search rules)

@@ -17,65 +17,65 @@ use Rattle.search_queue.proofs.EnterLaws.{enters-only, enters-low, enters-pos, e
 use Rattle.search_queue.proofs.winner.rise.Statement.{statement}
 use Rattle.search_queue.proofs.winner.rise.Tie as tie
 
-abbrev invariant-loop : tie.invariant-loop
-invariant-loop b₀ n root block size j₀ half₀ b j half =
+abbrev invariant-loop-half : tie.invariant-loop-half
+invariant-loop-half b₀ n root block size j₀ half₀ b j half =
     (Only 28 2 (n + 1) b₀ b) × (Enters (NotAfter b) (winner_at b) n half j n) × (First (NotAfter b) n 0 n root)
 
-abbrev decreases-loop : tie.decreases-loop
-decreases-loop b₀ n root block size j₀ half₀ b j half = n + 1 - half
+abbrev decreases-loop-half : tie.decreases-loop-half
+decreases-loop-half b₀ n root block size j₀ half₀ b j half = n + 1 - half
 
-abbrev start : tie.At-loop invariant-loop decreases-loop → tie.Start invariant-loop decreases-loop
+abbrev start : tie.At-loop-half invariant-loop-half decreases-loop-half → tie.Start invariant-loop-half decreases-loop-half
 start a = a.before.before
 
-comparable : (a : tie.At-loop invariant-loop decreases-loop) → Comparable a.loop.labels ((start a).args.n + 1)
-comparable a = comparable-only (only-working a.loop.invariant.0) _ (start a).requires.0
+comparable : (a : tie.At-loop-half invariant-loop-half decreases-loop-half) → Comparable a.loop-half.labels ((start a).args.n + 1)
+comparable a = comparable-only (only-working a.loop-half.invariant.0) _ (start a).requires.0
 
-low : (a : tie.At-loop invariant-loop decreases-loop) → a.loop.j * a.loop.half ≤ (start a).args.n
-low a = enters-low _ a.loop.invariant.1
+low : (a : tie.At-loop-half invariant-loop-half decreases-loop-half) → a.loop-half.j * a.loop-half.half ≤ (start a).args.n
+low a = enters-low _ a.loop-half.invariant.1
 
-loop-again : tie.Need-loop-preserved invariant-loop decreases-loop
+loop-again : tie.Need-loop-half-preserved-then-j-eq0 invariant-loop-half decreases-loop-half
 loop-again c =
-    let v = c.before.before.loop.invariant in
-    (v.0, enters-past _ v.1 c.if1.true, v.2)
+    let v = c.before.before.loop-half.invariant in
+    (v.0, enters-past _ v.1 c.if-j-eq0.true, v.2)
 
 -- where label n stands in the second of two blocks: the winner there is one of the others
-others : (c : tie.After-winner invariant-loop decreases-loop)
-    → c.winner.result < (start c.before.before.before.before).args.n
+others : (c : tie.After-winner-w invariant-loop-half decreases-loop-half)
+    → c.winner-w.result < (start c.before.before.before).args.n
 others c =
-    let e = c.before.before in
-    let a = e.before.before in
-    omega (arith, c.winner.ensures, old-used _ a.loop.invariant.1 e.if1.false)
+    let e = c.before in
+    let a = e.before in
+    omega (arith, c.winner-w.ensures, old-used _ a.loop-half.invariant.1 e.if-j-eq0.false)
 
-is-sooner-requires : tie.Need-is-sooner-requires invariant-loop decreases-loop
-is-sooner-requires c κs = (comparable c.before.before.before.before.before, omega (arith, others c.before), omega (arith, others c.before))
+is-sooner-requires : tie.Need-is_sooner-requires invariant-loop-half decreases-loop-half
+is-sooner-requires c κs = (comparable c.before.before.before, omega (arith, others c), omega (arith, others c))
 
-abbrev turned : tie.After-is-sooner invariant-loop decreases-loop → tie.Else1 invariant-loop decreases-loop
-turned c = c.before.before.before.before
+abbrev turned : tie.After-is_sooner invariant-loop-half decreases-loop-half → tie.Else-j-eq0 invariant-loop-half decreases-loop-half
+turned c = c.before.before
 
-returns : tie.Need-returns invariant-loop decreases-loop
+returns : tie.Need-returns-then-is_sooner invariant-loop-half decreases-loop-half
 returns c =
     let d = c.before in
     let e = turned d in
     let a = e.before.before in
-    let v = a.loop.inv in
-    let h = subst (λ w. NotAfter a.loop.labels w (start a).args.n) d.before.before.winner.ensures (is-sooner _ _ _ _ d.is-sooner.ensures c.if2.true) in
-    let k = enters-stays _ v.1 e.if1.left _ h v.2 in
+    let v = a.loop-half.invariant in
+    let h = subst (λ w. NotAfter a.loop-half.labels w (start a).args.n) d.before.winner-w.ensures (is-sooner _ _ _ _ d.is_sooner.ensures c.if-is_sooner.true) in
+    let k = enters-stays _ v.1 e.if-j-eq0.false _ h v.2 in
     (v.0, k.0, k.1)
 
-loop-again-2 : tie.Need-loop-preserved-2 invariant-loop decreases-loop
+loop-again-2 : tie.Need-loop-half-preserved invariant-loop-half decreases-loop-half
 loop-again-2 c =
     let p = c.before.before in
     let d = p.before.before.before in
     let e = turned d in
     let a = e.before.before in
-    let v = a.loop.inv in
-    let h = subst (λ w. NotAfter a.loop.labels (start a).args.n w) d.before.before.winner.ensures (is-no-sooner _ _ _ _ d.is-sooner.ensures p.before.before.if2.false) in
-    let w = enters-wins _ v.1 e.if1.left (omega (arith, (comparable a).down.room)) (start a).pre.1 h _ p.put-winner.ensures in
+    let v = a.loop-half.invariant in
+    let h = subst (λ w. NotAfter a.loop-half.labels (start a).args.n w) d.before.winner-w.ensures (is-no-sooner _ _ _ _ d.is_sooner.ensures p.before.before.if-is_sooner.false) in
+    let w = enters-wins _ v.1 e.if-j-eq0.false (omega (arith, (comparable a).down.room)) (start a).requires.1 h _ p.put_winner.ensures in
     (only-trans v.0 w.0, enters-only w.0 w.1, first-near _ _ (not-after-only w.0) v.2)
 
-returns-2 : tie.Need-returns-2 invariant-loop decreases-loop
+returns-2 : tie.Need-returns invariant-loop-half decreases-loop-half
 returns-2 c =
-    let v = c.before.loop.invariant in
+    let v = c.before.loop-half.invariant in
     let d = enters-done _ v.1 (omega arith) in
     (v.0, d.0, d.1)
 
@@ -83,14 +83,14 @@ pub rise_spec : {M : Type 1} → statement M
 rise_spec =
     tie.close
     (tie.spec
-    invariant-loop
-    decreases-loop
+    invariant-loop-half
+    decreases-loop-half
     (λ c. (only_same 28 2 _ _, c.before.requires.3, c.before.requires.2))
     (λ c. search rules)
-    (λ c. omega (arith, enters-pos _ c.before.before.loop.invariant.1))
+    (λ c. omega (arith, enters-pos _ c.before.before.loop-half.invariant.1))
     loop-again
     (λ c. omega (arith, low c.before.before))
-    (λ c κs. let a = c.before.before.before in omega (arith, low a, (comparable a).down.room))
+    (λ c κs. let a = c.before.before in omega (arith, low a, (comparable a).down.room))
     (λ c. search rules)
     (λ c. search rules)
     is-sooner-requires
@@ -99,7 +99,7 @@ rise_spec =
     (λ c. search rules)
     (λ c κs. let a = (turned c.before.before).before.before in omega (arith, low a, (comparable a).down.room))
     (λ c. search rules)
-    (λ c. omega (arith, enters-pos _ (turned c.before.before.before.before.before).before.before.loop.inv.1))
+    (λ c. omega (arith, enters-pos _ (turned c.before.before.before.before.before).before.before.loop-half.invariant.1))
     loop-again-2
     (λ c. search rules)
     returns-2)

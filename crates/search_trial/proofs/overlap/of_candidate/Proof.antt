@@ -29,111 +29,111 @@ use Rattle.search_trial.proofs.overlap.of_candidate.Tie as tie
 abbrev sums : List ℕ → Ask → List ℕ → List ℕ → ℕ → ℕ → ℕ → List ℕ
 sums table ask area labels r label arc = overlaps_of (net_for ask table []) (earlier_in (width ask) r area) (chain_at labels label ++ (arc ∷ []))
 
-abbrev invariant-loop : tie.invariant-loop
-invariant-loop table ask area marks labels own₀ r label arc may j₀ own j =
+abbrev invariant-loop-j : tie.invariant-loop-j
+invariant-loop-j table ask area marks labels own₀ r label arc may j₀ own j =
     (j ≤ r) × (length own ≡ length own₀) × (take j own ≡ take j (sums table ask area labels r label arc))
 
-abbrev decreases-loop : tie.decreases-loop
-decreases-loop table ask area marks labels own₀ r label arc may j₀ own j = r - j
+abbrev decreases-loop-j : tie.decreases-loop-j
+decreases-loop-j table ask area marks labels own₀ r label arc may j₀ own j = r - j
 
-abbrev start_of : tie.After-c invariant-loop decreases-loop → tie.Start invariant-loop decreases-loop
+abbrev start_of : tie.After-c-1 invariant-loop-j decreases-loop-j → tie.Start invariant-loop-j decreases-loop-j
 start_of c = c.before.before.before.before.before.before
 
-abbrev start : tie.At-loop invariant-loop decreases-loop → tie.Start invariant-loop decreases-loop
+abbrev start : tie.At-loop-j invariant-loop-j decreases-loop-j → tie.Start invariant-loop-j decreases-loop-j
 start a = start_of a.before.before
 
-abbrev net : tie.Start invariant-loop decreases-loop → Net
+abbrev net : tie.Start invariant-loop-j decreases-loop-j → Net
 net s = net_for s.args.ask s.args.table.now []
 
-abbrev earlier : tie.Start invariant-loop decreases-loop → List (List ℕ)
+abbrev earlier : tie.Start invariant-loop-j decreases-loop-j → List (List ℕ)
 earlier s = earlier_in (width s.args.ask) s.args.x.r s.args.area.now
 
-many : (s : tie.Start invariant-loop decreases-loop) → length (earlier s) ≡ s.args.x.r
+many : (s : tie.Start invariant-loop-j decreases-loop-j) → length (earlier s) ≡ s.args.x.r
 many s = length-earlier_in (width s.args.ask) s.args.x.r s.args.area.now
 
-loop-holds : tie.Need-loop-init invariant-loop decreases-loop
+loop-holds : tie.Need-loop-j-init invariant-loop-j decreases-loop-j
 loop-holds c = (search rules, search rules, refl)
 
-slot-requires : tie.Need-slot-requires invariant-loop decreases-loop
+slot-requires : tie.Need-slot-requires invariant-loop-j decreases-loop-j
 slot-requires c κs =
     let s = start c.before in
-    (nodes-least s.pre.0.searching.accepted, slot-end _ s.args.x.r _ c.before.loop.j c.loop-test.true s.pre.0.slots)
+    (nodes-least s.requires.0.searching.accepted, slot-end _ s.args.x.r _ c.loop-j.j c.loop-j-test.true s.requires.0.slots)
 
 -- without its bit the arc is on no road that the earlier answers drive
-share-of-requires : tie.Need-share-of-requires invariant-loop decreases-loop
+share-of-requires : tie.Need-share_of-share-requires invariant-loop-j decreases-loop-j
 share-of-requires c κs =
     let a = c.before.before in
     let s = start a in
-    let ok = s.pre.0 in (
+    let ok = s.requires.0 in (
       ok.searching.accepted,
       ok.among.arc-below,
-      subst Formed (sym c.slot.ensures) (ok.formed a.loop.j c.before.loop-test.true),
+      subst Formed (sym c.slot.ensures) (ok.formed a.loop-j.j c.loop-j-test.true),
       λ e.
           subst (λ l. driven (roads_of s.args.table.now) (route_in l) s.args.x.c.arc ≡ false) (sym c.slot.ensures)
-          (unmarked s.pre.1 s.args.x.c.arc ok.among.arc-below (sym a.before.may-drive.ensures ∙ e) _
-          (mem-earlier_in (width s.args.ask) s.args.x.r s.args.area.now a.loop.j c.before.loop-test.true)),
+          (unmarked s.requires.1 s.args.x.c.arc ok.among.arc-below (sym a.may_drive-may.ensures ∙ e) _
+          (mem-earlier_in (width s.args.ask) s.args.x.r s.args.area.now a.loop-j.j c.loop-j-test.true)),
     )
 
-overlap-requires : tie.Need-overlap-requires invariant-loop decreases-loop
+overlap-requires : tie.Need-overlap-requires invariant-loop-j decreases-loop-j
 overlap-requires c κs =
     let a = c.before.before.before in
     let s = start a in
-    let ok = s.pre.0 in
-    (omega (arith, ok.among.label-below, ok.searching.standing.down.room), omega (arith, many s, ok.holding.few, c.before.before.loop-test.true))
+    let ok = s.requires.0 in
+    (omega (arith, ok.among.label-below, ok.searching.standing.down.room), omega (arith, many s, ok.holding.few, c.loop-j-test.true))
 
 -- what a turn reads and adds
-abbrev turn : tie.After-overlap invariant-loop decreases-loop → tie.At-loop invariant-loop decreases-loop
+abbrev turn : tie.After-overlap invariant-loop-j decreases-loop-j → tie.At-loop-j invariant-loop-j decreases-loop-j
 turn c = c.before.before.before.before
 
-below : (c : tie.After-overlap invariant-loop decreases-loop) → (turn c).loop.j < length (earlier (start (turn c)))
-below c = omega (arith, many (start (turn c)), c.before.before.before.loop-test.true)
+below : (c : tie.After-overlap invariant-loop-j decreases-loop-j) → (turn c).loop-j.j < length (earlier (start (turn c)))
+below c = omega (arith, many (start (turn c)), c.loop-j-test.true)
 
-sum_is : (c : tie.After-overlap invariant-loop decreases-loop)
+sum_is : (c : tie.After-overlap invariant-loop-j decreases-loop-j)
     → let a = turn c in let s = start a in
-    c.overlap.result + c.before.share-of.result ≡ overlap_at s.args.labels.now s.args.x.c.label a.loop.j + overlap (net s) (s.args.x.c.arc ∷ []) (get_or (earlier s) a.loop.j [])
+    c.overlap.result + c.share_of-share.result ≡ overlap_at s.args.labels.now s.args.x.c.label a.loop-j.j + overlap (net s) (s.args.x.c.arc ∷ []) (get_or (earlier s) a.loop-j.j [])
 sum_is c =
     let a = turn c in
     let s = start a in
     ap₂ ◌+◌ c.overlap.ensures
-    (c.before.share-of.ensures ∙ ap (λ l. overlap (net s) (s.args.x.c.arc ∷ []) (route_in l)) c.before.before.slot.ensures
-    ∙ ap (overlap (net s) (s.args.x.c.arc ∷ [])) (sym (get_or-earlier_in (width s.args.ask) s.args.x.r s.args.area.now a.loop.j c.before.before.before.loop-test.true)))
+    (c.share_of-share.ensures ∙ ap (λ l. overlap (net s) (s.args.x.c.arc ∷ []) (route_in l)) c.slot.ensures
+    ∙ ap (overlap (net s) (s.args.x.c.arc ∷ [])) (sym (get_or-earlier_in (width s.args.ask) s.args.x.r s.args.area.now a.loop-j.j c.loop-j-test.true)))
 
-add-own : tie.Need-overflow-add-own invariant-loop decreases-loop
+add-own : tie.Need-overflow_add-own invariant-loop-j decreases-loop-j
 add-own c =
     let a = turn c in
     let s = start a in
-    let ok = s.pre.0 in
-    omega (arith, sum_is c, candidate-limit (net s) ok.searching.standing (lengths-most ok.searching.accepted) s.args.x.c.label s.args.x.c.arc ok.among.label-below ok.holding a.loop.j (below c))
+    let ok = s.requires.0 in
+    omega (arith, sum_is c, candidate-limit (net s) ok.searching.standing (lengths-most ok.searching.accepted) s.args.x.c.label s.args.x.c.arc ok.among.label-below ok.holding a.loop-j.j (below c))
 
-loop-again : tie.Need-loop-preserved invariant-loop decreases-loop
+loop-again : tie.Need-loop-j-preserved invariant-loop-j decreases-loop-j
 loop-again c =
     let a = turn c in
     let s = start a in
-    let ok = s.pre.0 in
+    let ok = s.requires.0 in
     let os = sums s.args.table.now s.args.ask s.args.area.now s.args.labels.now s.args.x.r s.args.x.c.label s.args.x.c.arc in
     let n : length os ≡ s.args.x.r = length-overlaps_of (net s) (earlier s) _ ∙ many s in
-    let v = sum_is c ∙ candidate-overlap (net s) ok.searching.standing (lengths-most ok.searching.accepted) s.args.x.c.label s.args.x.c.arc ok.among.label-below ok.holding a.loop.j (below c) in (
+    let v = sum_is c ∙ candidate-overlap (net s) ok.searching.standing (lengths-most ok.searching.accepted) s.args.x.c.label s.args.x.c.arc ok.among.label-below ok.holding a.loop-j.j (below c) in (
       search rules,
       search rules,
-      sums-step os a.loop.own a.loop.j _ (omega (arith, a.loop.inv.1, s.pre.2, c.before.before.before.loop-test.true)) (omega (arith, n, c.before.before.before.loop-test.true)) a.loop.inv.2
-          (v ∙ sym (overlaps-at (net s) (earlier s) _ a.loop.j (below c))),
+      sums-step os a.loop-j.own a.loop-j.j _ (omega (arith, a.loop-j.invariant.1, s.requires.2, c.loop-j-test.true)) (omega (arith, n, c.loop-j-test.true)) a.loop-j.invariant.2
+          (v ∙ sym (overlaps-at (net s) (earlier s) _ a.loop-j.j (below c))),
     )
 
-returns : tie.Need-returns invariant-loop decreases-loop
+returns : tie.Need-returns invariant-loop-j decreases-loop-j
 returns c =
     let a = c.before in
     let s = start a in
     let os = sums s.args.table.now s.args.ask s.args.area.now s.args.labels.now s.args.x.r s.args.x.c.label s.args.x.c.arc in
     let n : length os ≡ s.args.x.r = length-overlaps_of (net s) (earlier s) _ ∙ many s in
-    let e : s.args.x.r ≡ a.loop.j = omega arith in
-    (a.loop.invariant.1, ap (λ k. take k a.loop.own) e ∙ a.loop.invariant.2 ∙ take_all a.loop.j os (omega (arith, n)))
+    let e : s.args.x.r ≡ a.loop-j.j = omega arith in
+    (a.loop-j.invariant.1, ap (λ k. take k a.loop-j.own) e ∙ a.loop-j.invariant.2 ∙ take_all a.loop-j.j os (omega (arith, n)))
 
 pub of_candidate_spec : {M : Type 1} → statement M
 of_candidate_spec =
     tie.close
     (tie.spec
-    invariant-loop
-    decreases-loop
+    invariant-loop-j
+    decreases-loop-j
     (λ c κs. ((start_of c).requires.0.among.arc-below, (good-size _ _ (start_of c).requires.0.searching.accepted.no-fault).3, (start_of c).requires.1.long))
     loop-holds
     slot-requires

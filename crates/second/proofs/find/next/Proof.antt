@@ -11,7 +11,7 @@ walk-requires c κs =
     let s = c.before.before in
     (s.requires.0, omega (arith, s.requires.1), omega (arith, s.requires.1, run-le s.args.table.now s.args.u))
 
-returns : tie.Need-returns
+returns : tie.Need-returns-then-lo-first
 returns c =
     let s = c.before.before.before in
     cc (s.requires.1, next-run s.args.table.now s.args.u s.args.v s.args.lo (omega (arith, s.requires.1)))

@@ -7,20 +7,20 @@ use Rattle.second.specs.Find.{alike}
 use Rattle.second.proofs.judge.alike.Statement.{statement}
 use Rattle.second.proofs.judge.alike.Tie as tie
 
-returns : tie.Need-returns
+returns : tie.Need-returns-then-length_of
 unfolding alike
 returns c =
     let k = c.before in
     let s = k.before.before.before.before in
-    rw (ne_eqb (len_at s.args.second.now s.args.j) (len_at s.args.table.now s.args.a) (λ z. c.if1.true (k.before.length-of.ensures ∙ z ∙ sym k.length-of2.ensures)))
+    rw (ne_eqb (len_at s.args.second.now s.args.j) (len_at s.args.table.now s.args.a) (λ z. c.if-length_of.true (k.before.length_of.ensures ∙ z ∙ sym k.length_of-2.ensures)))
 
-returns-2 : tie.Need-returns-2
+returns-2 : tie.Need-returns
 unfolding alike
 returns-2 c =
     let k = c.before.before.before in
     let s = k.before.before.before.before in
     rw
-    (eq-eqb (len_at s.args.second.now s.args.j) (len_at s.args.table.now s.args.a) (sym k.before.length-of.ensures ∙ c.before.before.if1.false ∙ k.length-of2.ensures))
+    (eq-eqb (len_at s.args.second.now s.args.j) (len_at s.args.table.now s.args.a) (sym k.before.length_of.ensures ∙ c.before.before.if-length_of.false ∙ k.length_of-2.ensures))
     (cc)
 
 pub alike_spec : {M : Type 1} → statement M

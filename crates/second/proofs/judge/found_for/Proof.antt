@@ -8,39 +8,39 @@ use Rattle.second.proofs.JudgeLaws.{look-le, candidate, found-order, found_none,
 use Rattle.second.proofs.judge.found_for.Statement.{statement}
 use Rattle.second.proofs.judge.found_for.Tie as tie
 
-abbrev start : tie.After-to-of → tie.Start
+abbrev start : tie.After-to_of-v → tie.Start
 start c = c.before.before.before
 
-abbrev at : tie.After-next → tie.After-to-of
+abbrev at : tie.After-next-a → tie.After-to_of-v
 at c = c.before.before.before.before
 
 -- what is looked for is the arc of the definition
-found : (c : tie.After-next) → c.next.result ≡ candidate (start (at c)).args.table.now (start (at c)).args.second.now (start (at c)).args.j (start (at c)).args.end (start (at c)).args.lo
+found : (c : tie.After-next-a) → c.next-a.result ≡ candidate (start (at c)).args.table.now (start (at c)).args.second.now (start (at c)).args.j (start (at c)).args.end (start (at c)).args.lo
 found c = cc
 
-returns : tie.Need-returns
+returns : tie.Need-returns-then-v-end
 returns c =
     let s = start c.before in
     sym (found-order s.args.table.now s.args.second.now s.args.j s.args.end s.args.lo (omega arith))
 
-next-requires : tie.Need-next-requires
+next-requires : tie.Need-next-a-requires
 next-requires c κs =
     let s = start c.before.before.before in
-    (s.pre.0, s.pre.2 ∙ ap (run_start s.args.table.now) (sym c.before.from-of.ensures), omega (arith, look-le s.args.end s.args.lo c.before.before.before.to-of.result (records s.args.table.now) s.pre.3))
+    (s.requires.0, s.requires.2 ∙ ap (run_start s.args.table.now) (sym c.before.from_of-u.ensures), omega (arith, look-le s.args.end s.args.lo c.before.before.before.to_of-v.result (records s.args.table.now) s.requires.3))
 
-returns-2 : tie.Need-returns-2
+returns-2 : tie.Need-returns-then-n-a
 returns-2 c =
     let k = c.before in
     let s = start (at k) in
-    sym (found_none s.args.table.now s.args.second.now s.args.j s.args.end s.args.lo (omega arith) s.pre.3 (omega (arith, found k)))
+    sym (found_none s.args.table.now s.args.second.now s.args.j s.args.end s.args.lo (omega arith) s.requires.3 (omega (arith, found k)))
 
-returns-3 : tie.Need-returns-3
+returns-3 : tie.Need-returns-then-alike
 returns-3 c =
     let k = c.before.before.before in
     let s = start (at k) in
     cc (found k, found_alike s.args.table.now s.args.second.now s.args.j s.args.end s.args.lo (omega arith) (cc (found k)))
 
-returns-4 : tie.Need-returns-4
+returns-4 : tie.Need-returns
 returns-4 c =
     let k = c.before.before.before in
     let s = start (at k) in

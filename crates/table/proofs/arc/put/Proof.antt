@@ -18,8 +18,8 @@ past : (t : List ℕ) (i : ℕ) (x : Arc) → records t ≤ i → with_record t 
 unfolding with_record
 past t i x h = rw (le-ltb i (records t) h)
 
-returns : tie.Need-returns
-returns c = c.before.before.write.ensures ∙ sym (within _ _ _ c.before.before.before.before.if1.true)
+returns : tie.Need-returns-then-i-table
+returns c = c.before.before.write.ensures ∙ sym (within _ _ _ c.before.before.before.before.if-i-table.true)
 
 pub put_spec : {M : Type 1} → statement M
-put_spec = tie.close (tie.spec (λ c κs. search rules) (λ c. search rules) returns (λ c. sym (past _ _ _ c.if1.false)))
+put_spec = tie.close (tie.spec (λ c κs. search rules) (λ c. search rules) returns (λ c. sym (past _ _ _ c.if-i-table.false)))

@@ -7,17 +7,17 @@ use Rattle.table.proofs.RunLaws.{arcs-run, arcs-faulty, arcs-past}
 use Rattle.table.proofs.run.arcs_from.Statement.{statement}
 use Rattle.table.proofs.run.arcs_from.Tie as tie
 
-abbrev start : tie.After-check → tie.Start
+abbrev start : tie.After-check-told → tie.Start
 start c = c.before.before.before
 
-no-fault : (c : tie.Else2) → table_fault (start c.before.before).args.nodes (start c.before.before).args.table.now ≡ good
-no-fault c = let k = c.before.before in told-good _ _ (sym (ap (λ x. x.outcome) k.check.ensures) ∙ c.if2.false)
+no-fault : (c : tie.Else-told-ne-FOUND) → table_fault (start c.before.before).args.nodes (start c.before.before).args.table.now ≡ good
+no-fault c = let k = c.before.before in told-good _ _ (sym (ap (λ x. x.outcome) k.check-told.ensures) ∙ c.if-told-ne-FOUND.false)
 
-returns-2 : tie.Need-returns-2
-returns-2 c = let k = c.before.before.before in sym (arcs-faulty _ _ _ (λ z. c.before.if2.true (ap (λ x. x.outcome) k.check.ensures ∙ z)))
+returns-2 : tie.Need-returns-then-told-ne-FOUND
+returns-2 c = let k = c.before.before.before in sym (arcs-faulty _ _ _ (λ z. c.before.if-told-ne-FOUND.true (ap (λ x. x.outcome) k.check-told.ensures ∙ z)))
 
-returns-3 : tie.Need-returns-3
-returns-3 c = c.run_of.ensures ∙ sym (arcs-run _ _ _ (no-fault c.before) c.before.before.before.before.if1.false)
+returns-3 : tie.Need-returns
+returns-3 c = c.run_of.ensures ∙ sym (arcs-run _ _ _ (no-fault c.before) c.before.before.before.before.if-nodes-v.false)
 
 pub arcs_from_spec : {M : Type 1} → statement M
 arcs_from_spec =
@@ -26,11 +26,11 @@ arcs_from_spec =
     (λ c. search rules)
     (λ c. search rules)
     (λ c. search rules)
-    (λ c. sym (arcs-past _ _ _ c.before.if1.true))
+    (λ c. sym (arcs-past _ _ _ c.before.if-nodes-v.true))
     (λ c κs. search rules)
     (λ c. search rules)
     (λ c. search rules)
     (λ c. search rules)
     returns-2
-    (λ c κs. (no-fault c, c.before.before.before.if1.false))
+    (λ c κs. (no-fault c, c.before.before.before.if-nodes-v.false))
     returns-3)

@@ -8,27 +8,27 @@ use Rattle.table.proofs.RunLaws.{run-le, run-mono}
 use Rattle.table.proofs.run.run_of.Statement.{statement}
 use Rattle.table.proofs.run.run_of.Tie as tie
 
-mul-from : tie.Need-overflow-mul-from
+mul-from : tie.Need-overflow_mul-from
 mul-from c =
     let s = c.before.before in
     omega (arith, run-le s.args.table.now s.args.v)
 
-mul-to : tie.Need-overflow-mul-to
+mul-to : tie.Need-overflow_mul-to
 mul-to c =
     let s = c.before.before.before in
     omega (arith, run-le s.args.table.now (s.args.v + 1))
 
-sub-result : tie.Need-overflow-sub-result
+sub-result : tie.Need-slice_bounds-result-count
 sub-result c =
     let s = c.before.before.before in
     omega (arith, run-mono s.args.table.now s.args.v)
 
-part-result-start : tie.Need-slice-bounds-result-start
+part-result-start : tie.Need-slice_bounds-result-start
 part-result-start c =
     let s = c.before.before.before in
     omega (arith, run-mono s.args.table.now s.args.v)
 
-part-result-end : tie.Need-slice-bounds-result-end
+part-result-end : tie.Need-slice_bounds-result-end
 part-result-end c =
     let s = c.before.before.before in
     omega (arith, run-le s.args.table.now (s.args.v + 1))

@@ -9,30 +9,30 @@ use Rattle.table.proofs.RunLaws.{run-le, run-to, run_past}
 use Rattle.table.proofs.run.run_start.Statement.{statement}
 use Rattle.table.proofs.run.run_start.Tie as tie
 
-abbrev invariant-loop : tie.invariant-loop
-invariant-loop t nodes v lo₀ hi₀ lo hi = (lo ≤ run_start t v) × (run_start t v ≤ hi) × (hi ≤ records t)
+abbrev invariant-loop-lo : tie.invariant-loop-lo
+invariant-loop-lo t nodes v lo₀ hi₀ lo hi = (lo ≤ run_start t v) × (run_start t v ≤ hi) × (hi ≤ records t)
 
-abbrev decreases-loop : tie.decreases-loop
-decreases-loop t nodes v lo₀ hi₀ lo hi = hi - lo
+abbrev decreases-loop-lo : tie.decreases-loop-lo
+decreases-loop-lo t nodes v lo₀ hi₀ lo hi = hi - lo
 
-loop-again : tie.Need-loop-preserved invariant-loop decreases-loop
+loop-again : tie.Need-loop-lo-preserved-then-from_of-v invariant-loop-lo decreases-loop-lo
 loop-again c =
     let k = c.before.before.before in
     let s = k.before.before in
-    omega (arith, run_past s.args.nodes s.args.table.now s.requires s.args.v (k.loop.lo + (k.loop.hi - k.loop.lo) / 2) (omega arith) (omega arith))
+    omega (arith, run_past s.args.nodes s.args.table.now s.requires s.args.v (k.loop-lo.lo + (k.loop-lo.hi - k.loop-lo.lo) / 2) (omega arith) (omega arith))
 
-loop-again-2 : tie.Need-loop-preserved-2 invariant-loop decreases-loop
+loop-again-2 : tie.Need-loop-lo-preserved invariant-loop-lo decreases-loop-lo
 loop-again-2 c =
     let k = c.before.before.before in
     let s = k.before.before in
-    omega (arith, run-to s.args.table.now s.args.v (k.loop.lo + (k.loop.hi - k.loop.lo) / 2) (omega arith))
+    omega (arith, run-to s.args.table.now s.args.v (k.loop-lo.lo + (k.loop-lo.hi - k.loop-lo.lo) / 2) (omega arith))
 
 pub run_start_spec : {M : Type 1} → statement M
 run_start_spec =
     tie.close
     (tie.spec
-    invariant-loop
-    decreases-loop
+    invariant-loop-lo
+    decreases-loop-lo
     (λ c. omega (arith, run-le c.before.args.table.now c.before.args.v))
     (λ c. search rules)
     (λ c. search rules)

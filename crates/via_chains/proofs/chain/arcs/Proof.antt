@@ -11,56 +11,56 @@ use Rattle.via_chains.proofs.CandidateLaws.{Back, to_none, to-short, back-arc, b
 use Rattle.via_chains.proofs.chain.arcs.Statement.{statement}
 use Rattle.via_chains.proofs.chain.arcs.Tie as tie
 
-abbrev invariant-loop : tie.invariant-loop
-invariant-loop table closed ask room v k₀ x₀ k x =
+abbrev invariant-loop-x : tie.invariant-loop-x
+invariant-loop-x table closed ask room v k₀ x₀ k x =
     (x < ask.nodes) × (dist_in forth ask.nodes room x < far) × (k + length (to_of ask table closed room x) ≡ length (to_of ask table closed room v))
 
-abbrev decreases-loop : tie.decreases-loop
-decreases-loop table closed ask room v k₀ x₀ k x = length (to_of ask table closed room x)
+abbrev decreases-loop-x : tie.decreases-loop-x
+decreases-loop-x table closed ask room v k₀ x₀ k x = length (to_of ask table closed room x)
 
-abbrev start : tie.At-loop invariant-loop decreases-loop → tie.Start invariant-loop decreases-loop
+abbrev start : tie.At-loop-x invariant-loop-x decreases-loop-x → tie.Start invariant-loop-x decreases-loop-x
 start a = a.before.before.before.before
 
-abbrev at : tie.After-word invariant-loop decreases-loop → tie.At-loop invariant-loop decreases-loop
+abbrev at : tie.After-word-a invariant-loop-x decreases-loop-x → tie.At-loop-x invariant-loop-x decreases-loop-x
 at c = c.before.before.before
 
-loop-holds : tie.Need-loop-init invariant-loop decreases-loop
-loop-holds c = let s = c.before.before.before in (s.requires.1, s.requires.2, omega arith)
+loop-holds : tie.Need-loop-x-init invariant-loop-x decreases-loop-x
+loop-holds c = let s = c in (s.requires.1, s.requires.2, omega arith)
 
-word-requires : tie.Need-word-requires invariant-loop decreases-loop
-word-requires c κs = let a = c.before.before in (omega (arith, (start a).requires.0.prepared.roomy.enough, a.loop.invariant.0), omega arith)
+word-requires : tie.Need-word-a-requires invariant-loop-x decreases-loop-x
+word-requires c κs = let a = c.before.before in (omega (arith, (start a).requires.0.prepared.roomy.enough, a.loop-x.invariant.0), omega arith)
 
-from-of-requires : tie.Need-from-of-requires invariant-loop decreases-loop
+from-of-requires : tie.Need-from_of-x-requires invariant-loop-x decreases-loop-x
 from-of-requires c κs =
     let a = at c in
-    omega (arith, c.word.ensures, back-arc (start a).pre.0 a.loop.x a.loop.inv.0 c.before.if1.true a.loop.inv.1)
+    omega (arith, c.word-a.ensures, back-arc (start a).requires.0 a.loop-x.x a.loop-x.invariant.0 c.loop-x-test.true a.loop-x.invariant.1)
 
-turn : (c : tie.After-from-of invariant-loop decreases-loop) → Back (start (at c.before)).pre.0 (at c.before).loop.x c.before.word.result c.from-of.result
+turn : (c : tie.After-from_of-x invariant-loop-x decreases-loop-x) → Back (start (at c.before)).requires.0 (at c.before).loop-x.x c.word-a.result c.from_of-x.result
 turn c =
     let a = at c.before in
-    back-over (start a).pre.0 a.loop.x a.loop.inv.0 c.before.before.if1.true a.loop.inv.1 c.before.word.result c.from-of.result c.before.word.ensures
-    c.from-of.ensures
+    back-over (start a).requires.0 a.loop-x.x a.loop-x.invariant.0 c.loop-x-test.true a.loop-x.invariant.1 c.word-a.result c.from_of-x.result c.word-a.ensures
+    c.from_of-x.ensures
 
-add-k : tie.Need-overflow-add-k invariant-loop decreases-loop
+add-k : tie.Need-overflow_add-k invariant-loop-x decreases-loop-x
 add-k c =
     let a = at c.before in
     let s = start a in
-    omega (arith, a.loop.inv.2, to-short s.pre.0 s.args.v s.pre.1 s.pre.2, s.pre.0.prepared.roomy.few)
+    omega (arith, a.loop-x.invariant.2, to-short s.requires.0 s.args.v s.requires.1 s.requires.2, s.requires.0.prepared.roomy.few)
 
-loop-again : tie.Need-loop-preserved invariant-loop decreases-loop
-loop-again c = let t = turn c in (t.below, t.near, omega (arith, t.one, (at c.before).loop.invariant.2))
+loop-again : tie.Need-loop-x-preserved invariant-loop-x decreases-loop-x
+loop-again c = let t = turn c in (t.below, t.near, omega (arith, t.one, (at c.before).loop-x.invariant.2))
 
-returns : tie.Need-returns invariant-loop decreases-loop
+returns : tie.Need-returns invariant-loop-x decreases-loop-x
 returns c =
     let a = c.before.before in
-    omega (arith, a.loop.invariant.2, ap length (to_none (start a).requires.0 a.loop.x c.if1.false))
+    omega (arith, a.loop-x.invariant.2, ap length (to_none (start a).requires.0 a.loop-x.x c.loop-x-test.false))
 
 pub arcs_spec : {M : Type 1} → statement M
 arcs_spec =
     tie.close
     (tie.spec
-    invariant-loop
-    decreases-loop
+    invariant-loop-x
+    decreases-loop-x
     loop-holds
     (λ c. search rules)
     word-requires

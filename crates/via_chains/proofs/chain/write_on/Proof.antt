@@ -13,44 +13,44 @@ use Rattle.via_chains.proofs.CandidateLaws.{On, on_none, on-arc, on_some, on-ove
 use Rattle.via_chains.proofs.chain.write_on.Statement.{statement}
 use Rattle.via_chains.proofs.chain.write_on.Tie as tie
 
-abbrev invariant-loop : tie.invariant-loop
-invariant-loop table closed ask room v slot₀ at k₀ x₀ slot k x =
+abbrev invariant-loop-x : tie.invariant-loop-x
+invariant-loop-x table closed ask room v slot₀ at k₀ x₀ slot k x =
     (x < ask.nodes) × (dist_in back ask.nodes room x < far) × (k + length (on_of ask table closed room x) ≡ at + length (on_of ask table closed room v))
     × (length slot ≡ length slot₀) × (take k slot ++ on_of ask table closed room x ≡ take at slot₀ ++ on_of ask table closed room v)
 
-abbrev decreases-loop : tie.decreases-loop
-decreases-loop table closed ask room v slot₀ at k₀ x₀ slot k x = length (on_of ask table closed room x)
+abbrev decreases-loop-x : tie.decreases-loop-x
+decreases-loop-x table closed ask room v slot₀ at k₀ x₀ slot k x = length (on_of ask table closed room x)
 
-abbrev start : tie.At-loop invariant-loop decreases-loop → tie.Start invariant-loop decreases-loop
+abbrev start : tie.At-loop-x invariant-loop-x decreases-loop-x → tie.Start invariant-loop-x decreases-loop-x
 start a = a.before.before.before.before.before
 
-abbrev now-at : tie.After-word invariant-loop decreases-loop → tie.At-loop invariant-loop decreases-loop
+abbrev now-at : tie.After-word-a invariant-loop-x decreases-loop-x → tie.At-loop-x invariant-loop-x decreases-loop-x
 now-at c = c.before.before.before
 
-loop-holds : tie.Need-loop-init invariant-loop decreases-loop
-loop-holds c = let s = c.before.before.before.before in (s.requires.1, s.requires.2, refl, refl, refl)
+loop-holds : tie.Need-loop-x-init invariant-loop-x decreases-loop-x
+loop-holds c = let s = c in (s.requires.1, s.requires.2, refl, refl, refl)
 
-word-requires : tie.Need-word-requires invariant-loop decreases-loop
-word-requires c κs = let a = c.before.before in (omega (arith, (start a).requires.0.prepared.roomy.enough, a.loop.invariant.0), omega arith)
+word-requires : tie.Need-word-a-requires invariant-loop-x decreases-loop-x
+word-requires c κs = let a = c.before.before in (omega (arith, (start a).requires.0.prepared.roomy.enough, a.loop-x.invariant.0), omega arith)
 
 -- a turn has an arc to write, and a word for it
-room-left : (c : tie.After-word invariant-loop decreases-loop) → (now-at c).loop.k < length (start (now-at c)).args.slot.now
+room-left : (c : tie.After-word-a invariant-loop-x decreases-loop-x) → (now-at c).loop-x.k < length (start (now-at c)).args.slot.now
 room-left c =
     let a = now-at c in
-    omega (arith, a.loop.inv.2, (start a).pre.3, on_some (start a).pre.0 a.loop.x a.loop.inv.0 c.before.if1.true a.loop.inv.1)
+    omega (arith, a.loop-x.invariant.2, (start a).requires.3, on_some (start a).requires.0 a.loop-x.x a.loop-x.invariant.0 c.loop-x-test.true a.loop-x.invariant.1)
 
-to-of-requires : tie.Need-to-of-requires invariant-loop decreases-loop
+to-of-requires : tie.Need-to_of-x-requires invariant-loop-x decreases-loop-x
 to-of-requires c κs =
     let a = now-at c in
-    omega (arith, c.word.ensures, on-arc (start a).pre.0 a.loop.x a.loop.inv.0 c.before.if1.true a.loop.inv.1)
+    omega (arith, c.word-a.ensures, on-arc (start a).requires.0 a.loop-x.x a.loop-x.invariant.0 c.loop-x-test.true a.loop-x.invariant.1)
 
-turn : (c : tie.After-to-of invariant-loop decreases-loop) → On (start (now-at c.before)).pre.0 (now-at c.before).loop.x c.before.word.result c.to-of.result
+turn : (c : tie.After-to_of-x invariant-loop-x decreases-loop-x) → On (start (now-at c.before)).requires.0 (now-at c.before).loop-x.x c.word-a.result c.to_of-x.result
 turn c =
     let a = now-at c.before in
-    on-over (start a).pre.0 a.loop.x a.loop.inv.0 c.before.before.if1.true a.loop.inv.1 c.before.word.result c.to-of.result c.before.word.ensures
-    c.to-of.ensures
+    on-over (start a).requires.0 a.loop-x.x a.loop-x.invariant.0 c.loop-x-test.true a.loop-x.invariant.1 c.word-a.result c.to_of-x.result c.word-a.ensures
+    c.to_of-x.ensures
 
-loop-again : tie.Need-loop-preserved invariant-loop decreases-loop
+loop-again : tie.Need-loop-x-preserved invariant-loop-x decreases-loop-x
 loop-again c =
     let a = now-at c.before in
     let s = start a in
@@ -58,33 +58,33 @@ loop-again c =
     let on = on_of s.args.ask s.args.table.now s.args.closed.now s.args.room.now in (
       t.below,
       t.near,
-      omega (arith, t.one, a.loop.inv.2),
-      simp length-set a.loop.inv.3,
-      on-write (on c.to-of.result) (on a.loop.x) c.before.word.result a.loop.slot a.loop.k t.joins (omega (arith, room-left c.before, a.loop.inv.3)) ∙ a.loop.inv.4,
+      omega (arith, t.one, a.loop-x.invariant.2),
+      simp length-set a.loop-x.invariant.3,
+      on-write (on c.to_of-x.result) (on a.loop-x.x) c.word-a.result a.loop-x.slot a.loop-x.k t.joins (omega (arith, room-left c.before, a.loop-x.invariant.3)) ∙ a.loop-x.invariant.4,
     )
 
-returns : tie.Need-returns invariant-loop decreases-loop
+returns : tie.Need-returns invariant-loop-x decreases-loop-x
 returns c =
     let a = c.before.before in
-    let n = on_none (start a).requires.0 a.loop.x c.if1.false in
-    (omega (arith, a.loop.invariant.2, ap length n), a.loop.invariant.3, on-end _ _ _ a.loop.k n a.loop.invariant.4)
+    let n = on_none (start a).requires.0 a.loop-x.x c.loop-x-test.false in
+    (omega (arith, a.loop-x.invariant.2, ap length n), a.loop-x.invariant.3, on-end _ _ _ a.loop-x.k n a.loop-x.invariant.4)
 
 pub write_on_spec : {M : Type 1} → statement M
 write_on_spec =
     tie.close
     (tie.spec
-    invariant-loop
-    decreases-loop
+    invariant-loop-x
+    decreases-loop-x
     loop-holds
     (λ c. search rules)
     word-requires
-    (λ c. let a = now-at c in omega (arith, room-left c, (start a).good.1.1.1.1.1.0.1))
-    (λ c. let a = now-at c in omega (arith, room-left c, a.loop.inv.3))
-    (λ c. let a = now-at c in omega (arith, room-left c, (start a).good.1.1.1.1.1.0.1))
+    (λ c. let a = now-at c in omega (arith, room-left c, (start a).well_formed.1.1.1.1.1.0.1))
+    (λ c. let a = now-at c in omega (arith, room-left c, a.loop-x.invariant.3))
+    (λ c. let a = now-at c in omega (arith, room-left c, (start a).well_formed.1.1.1.1.1.0.1))
     (λ c. search rules)
     to-of-requires
     (λ c. search rules)
     (λ c. omega (arith, (turn c).one))
     loop-again
-    (λ c. omega (arith, c.before.before.loop.invariant.3))
+    (λ c. omega (arith, c.loop-x.invariant.3))
     returns)

@@ -6,32 +6,32 @@ use Rattle.via_chains.proofs.CandidateLaws.{key-kept, key_set}
 use Rattle.via_chains.proofs.key.enter.Statement.{statement}
 use Rattle.via_chains.proofs.key.enter.Tie as tie
 
-returns : tie.Need-returns
+returns : tie.Need-returns-then-to-ge-FAR
 returns c =
-    let s = c.before.before.before.before in
-    key-kept s.args.n s.args.room.now s.args.v s.requires.1 s.args.root s.requires.0 s.requires.2 (inl (omega (arith, c.before.long.ensures, c.if1.true)))
+    let s = c in
+    key-kept s.args.n s.args.room.now s.args.v s.requires.1 s.args.root s.requires.0 s.requires.2 (inl (omega (arith, c.long-to.ensures, c.if-to-ge-FAR.true)))
 
-returns-2 : tie.Need-returns-2
+returns-2 : tie.Need-returns-then-on-ge-FAR
 returns-2 c =
-    let s = c.before.before.before.before.before.before.before in
-    key-kept s.args.n s.args.room.now s.args.v s.requires.1 s.args.root s.requires.0 s.requires.2 (inr (omega (arith, c.before.long2.ensures, c.if2.true)))
+    let s = c in
+    key-kept s.args.n s.args.room.now s.args.v s.requires.1 s.args.root s.requires.0 s.requires.2 (inr (omega (arith, c.long-on.ensures, c.if-on-ge-FAR.true)))
 
 -- where both are there
-abbrev second : tie.After-word → tie.After-long2
-second w = w.before.before.before
+abbrev second : tie.After-word-rank → tie.After-long-on
+second w = w.before.before
 
-abbrev first : tie.After-word → tie.After-long
-first w = (second w).before.before.before
+abbrev first : tie.After-word-rank → tie.After-long-to
+first w = (second w).before.before
 
-abbrev start : tie.After-word → tie.Start
-start w = (first w).before.before.before
+abbrev start : tie.After-word-rank → tie.Start
+start w = (first w).before.before
 
-returns-3 : tie.Need-returns-3
+returns-3 : tie.Need-returns
 returns-3 c =
     let w = c.before.before.before.before in
     let s = start w in
-    key_set s.args.n s.args.room.now s.args.v s.pre.1 c.before.before.set_key.ensures (omega (arith, (first w).long.ensures, (second w).before.before.if1.false))
-    (omega (arith, (second w).long2.ensures, w.before.before.if2.false)) (omega (arith, (first w).long.ensures, (second w).long2.ensures, w.word.ensures))
+    key_set s.args.n s.args.room.now s.args.v s.requires.1 c.set_key.ensures (omega (arith, (first w).long-to.ensures, (second w).if-to-ge-FAR.false))
+    (omega (arith, (second w).long-on.ensures, w.if-on-ge-FAR.false)) (omega (arith, (first w).long-to.ensures, (second w).long-on.ensures, w.word-rank.ensures))
 
 pub enter_spec : {M : Type 1} → statement M
 enter_spec =

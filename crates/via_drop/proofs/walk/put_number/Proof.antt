@@ -4,13 +4,13 @@ use Rattle.via_drop.specs.Walks.{put_number}
 use Rattle.via_drop.proofs.walk.put_number.Statement.{statement}
 use Rattle.via_drop.proofs.walk.put_number.Tie as tie
 
-returns : tie.Need-returns
+returns : tie.Need-returns-then-on
 unfolding put_number
-returns c = let p = c.before.before in rw p.before.before.if1.true p.put-long.ensures
+returns c = let p = c in rw p.if-on.true p.put_long.ensures
 
-returns-2 : tie.Need-returns-2
+returns-2 : tie.Need-returns
 unfolding put_number
-returns-2 c = let p = c.before.before in rw p.before.before.if1.false p.put-long2.ensures
+returns-2 c = let p = c in rw p.if-on.false p.put_long-2.ensures
 
 pub put_number_spec : {M : Type 1} → statement M
 put_number_spec =

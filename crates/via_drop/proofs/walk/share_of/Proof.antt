@@ -9,18 +9,18 @@ use Rattle.search_driven.proofs.MarksLaws.{unmarked}
 use Rattle.via_drop.proofs.walk.share_of.Statement.{statement}
 use Rattle.via_drop.proofs.walk.share_of.Tie as tie
 
-may-drive-requires : tie.Need-may-drive-requires
+may-drive-requires : tie.Need-may_drive-requires
 may-drive-requires c κs =
-    let s = c.before.before.before in
+    let s = c in
     (s.requires.2, few-records s.requires.0, s.requires.1.long)
 
-returns-2 : tie.Need-returns-2
+returns-2 : tie.Need-returns
 returns-2 c =
-    let m = c.before in
-    let s = m.before.before.before.before in
+    let m = c in
+    let s = m in
     sym
     (shared-none s.args.ask.nodes s.args.table.now s.args.slot.now s.args.arc (few-records s.requires.0) s.requires.2
-    (unmarked s.requires.1 s.args.arc s.requires.2 (sym m.may-drive.ensures ∙ c.if1.false) (route_in s.args.slot.now) (Memᴰ.head refl)))
+    (unmarked s.requires.1 s.args.arc s.requires.2 (sym m.may_drive.ensures ∙ c.if-may_drive.false) (route_in s.args.slot.now) (Memᴰ.head refl)))
 
 pub share_of_spec : {M : Type 1} → statement M
 share_of_spec = tie.close (tie.spec may-drive-requires (λ c κs. search rules) (λ c. search rules) returns-2)

@@ -8,25 +8,25 @@ use Rattle.words.proofs.FillLaws.{Filled, fill_step, fill_done}
 use Rattle.words.proofs.fill.fill8.Statement.{statement}
 use Rattle.words.proofs.fill.fill8.Tie as tie
 
-abbrev invariant-loop : tie.invariant-loop
-invariant-loop b₀ v i₀ b i = Filled b₀ v b i
+abbrev invariant-loop-i : tie.invariant-loop-i
+invariant-loop-i b₀ v i₀ b i = Filled b₀ v b i
 
-abbrev decreases-loop : tie.decreases-loop
-decreases-loop b₀ v i₀ b i = length b₀ - i
+abbrev decreases-loop-i : tie.decreases-loop-i
+decreases-loop-i b₀ v i₀ b i = length b₀ - i
 
-loop-again : tie.Need-loop-preserved invariant-loop decreases-loop
-loop-again c = (search rules, search rules, fill_step _ _ _ _ c.before.loop.invariant.2 (omega arith))
+loop-again : tie.Need-loop-i-preserved invariant-loop-i decreases-loop-i
+loop-again c = (search rules, search rules, fill_step _ _ _ _ c.before.loop-i.invariant.2 (omega arith))
 
 pub fill8_spec : {M : Type 1} → statement M
 fill8_spec =
     tie.close
     (tie.spec
-    invariant-loop
-    decreases-loop
+    invariant-loop-i
+    decreases-loop-i
     (λ c. search rules)
     (λ c. search rules)
     (λ c. search rules)
     (λ c. search rules)
     loop-again
     (λ c. search rules)
-    (λ c. fill_done _ _ _ c.before.loop.i c.before.loop.invariant.2 (omega arith)))
+    (λ c. fill_done _ _ _ c.before.loop-i.i c.before.loop-i.invariant.2 (omega arith)))

@@ -1,3 +1,0 @@
-pub mod ShuffleLaws
-pub mod SlotLaws
-pub mod HeapLaws
