@@ -9,37 +9,27 @@ stale() {
     [ ! -e "$1" ] || [ -n "$(find "$top"/crates/*/src "$top"/crates/*/specs "$top"/crates/*/proofs "$top/crates.txt" -newer "$1" \( -name '*.rt' -o -name '*.antt' -o -name crates.txt \) 2>/dev/null | head -n 1)" ]
 }
 
-# need_program CRATE TIME: proves and builds a program where it is missing or older than a source, which takes about TIME; what is done goes to standard error.
+# need_program CRATE: proves and builds a program where it is missing or older than a source; what is done goes to standard error. $proved is its path.
 need_program() {
-    if stale "$top/crates/$1/out/$1"; then
-        echo "$1: proving the program, once: about $2" >&2
+    proved=$top/crates/$1/out/$1
+    if stale "$proved"; then
+        echo "$1: proving the program and what it stands on, once" >&2
         if ! said=$(cd "$top/crates/$1" && rt run </dev/null 2>&1); then
             printf '%s\n' "$said" | tail -n 20 >&2
             echo "$1: the program is not proved: run 'rt check' in $top/crates/$1" >&2
             exit 1
         fi
         # It is of these sources, also where rt had nothing to build.
-        touch "$top/crates/$1/out/$1"
+        touch "$proved"
     fi
-    program=$top/crates/$1/out/$1
 }
 
 # run_roads [NODES]: runs the program for road files. What it says goes to standard error, and a refusal is status 1.
 run_roads() {
-    need_program roads "a minute"
-    { said=$(run_proved "$program" "$@" 2>&1 >&3) || exit 1; } 3>&1
+    need_program roads
+    { said=$("$proved" "$@" 2>&1 >&3) || exit 1; } 3>&1
     [ -z "$said" ] || echo "$said" >&2
     case $said in refused*) exit 1 ;; usage*) exit 2 ;; esac
-}
-
-# Runs a proved program.
-run_proved() {
-    "$@"
-}
-
-# Runs a compiled C program.
-run_c() {
-    "$@"
 }
 
 # Proves and writes the archive, for every x86-64 processor, where it is missing or old.
@@ -47,7 +37,7 @@ need_archive() {
     if stale "$archive"; then
         (cd "$top/crates/ojeonbut_c" && rt lib --cpu=x86-64) >&2 </dev/null || { echo "the archive is not proved: run 'rt check' in $top/crates/ojeonbut_c" >&2; exit 1; }
         mkdir -p "$(dirname "$archive")"
-        cp "$top/crates/ojeonbut_c/out/libojeonbut_c.a" "$archive" && touch "$archive"
+        cp "$top/crates/ojeonbut_c/out/libojeonbut_c.a" "$archive" && touch "$archive" || exit 1
     fi
 }
 

@@ -1,4 +1,4 @@
-// The calls for programs in C, C++ and Rust. include/ojeonbut.h declares them.
+// The public calls. crates/ojeonbut_c exports them to C, C++ and Rust, and include/ojeonbut.h declares the exports.
 #![tactic(auto)]
 
 ghost use Rattle.std.specs.Prelude.{◌≡◌, min, length};
