@@ -1,12 +1,12 @@
--- The next open arc is the first usable one. A loop that looks for it goes from place to place; an arc past the bytes is open.
-use mathlib.Core.Path.{◌≡◌, sym}
+-- The next open arc is the first usable one; an arc past the bytes is open. From a closed arc it is the next from the place after it.
+use mathlib.Core.Path.{◌≡◌, sym, ◌∙◌}
 use mathlib.Core.Bool.{true, false}
 use mathlib.Core.List.{List}
 use mathlib.Core.Logic.{⊎_elim}
 use Prim.Native.Nat.{ℕ, ◌+◌, ◌≤◌, ◌<◌}
 use native.Mathlib.Omega.{arith}
 use lib.ListN.{length, get_or, get_or-eq_default}
-use borrow.Author.Tests.{lt-ltb, le-ltb, eq-eqb, ne_eqb}
+use borrow.Author.Tests.{lt-ltb, le-ltb, eq-eqb}
 use Rattle.lists.proofs.Cases.{order}
 use Rattle.lists.proofs.IndexLaws.{first_done, first_step, first-stop}
 use Rattle.table.specs.Table.{is_open_at}
@@ -15,12 +15,6 @@ use Rattle.closures.specs.Closed.{next_open}
 
 pub open-past : (closed : List ℕ) (a : ℕ) → length closed ≤ a → is_open_at closed a ≡ true
 open-past closed a h = eq-eqb (get_or closed a 0) 0 (get_or-eq_default closed 0 {n = a} h)
-
-pub open-zero : (closed : List ℕ) (a : ℕ) → get_or closed a 0 ≡ 0 → is_open_at closed a ≡ true
-open-zero closed a e = eq-eqb (get_or closed a 0) 0 e
-
-pub open-not : (closed : List ℕ) (a : ℕ) → (get_or closed a 0 ≡ 0 → ⊥) → is_open_at closed a ≡ false
-open-not closed a ne = ne_eqb (get_or closed a 0) 0 ne
 
 module _ (closed : List ℕ) (a e : ℕ) where
   pub next-open : a ≤ e → next_open closed a e ≡ next_arc (is_open_at closed) a e
@@ -31,15 +25,10 @@ module _ (closed : List ℕ) (a e : ℕ) where
   unfolding next_open
   next-end h = rw (le-ltb a e h)
 
-  -- a loop from a on
-  pub next-done : a ≡ e → next_arc (is_open_at closed) a e ≡ e
+  pub next-stop : a < e → is_open_at closed a ≡ true → next_open closed a e ≡ a
   unfolding next_arc
-  next-done h = first_done (is_open_at closed) e a h
+  next-stop h z = next-open (omega arith) ∙ first-stop (is_open_at closed) e a h z
 
-  pub next-step : a < e → is_open_at closed a ≡ false → next_arc (is_open_at closed) a e ≡ next_arc (is_open_at closed) (a + 1) e
-  unfolding next_arc
-  next-step h z = first_step (is_open_at closed) e a h z
-
-  pub next-stop : a < e → is_open_at closed a ≡ true → next_arc (is_open_at closed) a e ≡ a
-  unfolding next_arc
-  next-stop h z = first-stop (is_open_at closed) e a h z
+pub next-step : (closed : List ℕ) (a e : ℕ) → a < e → is_open_at closed a ≡ false → next_open closed a e ≡ next_open closed (a + 1) e
+unfolding next_arc
+next-step closed a e h z = next-open closed a e (omega arith) ∙ first_step (is_open_at closed) e a h z ∙ sym (next-open closed (a + 1) e (omega arith))

@@ -10,35 +10,17 @@ ghost use Rattle.closures.specs.Closed.{wrong, next_open};
 pub fn wrong(table: &[u8], closed: &[u8]) -> bool
     ensures { result ≡ wrong table.now closed.now }
 {
-    if closed.len() != table.len() / table::arc::RECORD {
-        return true;
-    }
-    let mut i = 0;
-    while i < closed.len() {
-        if 1 < closed[i] {
-            return true;
-        }
-        i += 1;
-    }
-    false
+    closed.len() != table.len() / table::arc::RECORD || closed.iter().any(|&c| 1 < c)
 }
 
 // The next open arc from place `arc` on of a run that ends at `end`, or `end`.
 pub fn next_arc(closed: &[u8], arc: usize, end: usize) -> usize
     ensures { result ≡ next_open closed.now arc end }
 {
-    if end <= arc {
-        return end;
-    }
-    let mut a = arc;
-    while a < end {
-        if closed.len() <= a {
+    for a in arc..end {
+        if !is_closed(closed, a) {
             return a;
         }
-        if closed[a] == 0 {
-            return a;
-        }
-        a += 1;
     }
     end
 }
@@ -47,8 +29,5 @@ pub fn next_arc(closed: &[u8], arc: usize, end: usize) -> usize
 pub fn is_closed(closed: &[u8], arc: usize) -> bool
     ensures { result ≡ not (is_open_at closed.now arc) }
 {
-    if closed.len() <= arc {
-        return false;
-    }
-    closed[arc] != 0
+    arc < closed.len() && closed[arc] != 0
 }

@@ -1,3 +1,4 @@
 pub mod TakenLaws
 pub mod HeldLaws
 pub mod JudgedLaws
+pub mod Tests

@@ -4,16 +4,17 @@
 #![tactic(auto)]
 
 ghost use Rattle.std.specs.Prelude.{◌≡◌, ◌&&◌, ◌*◌, ◌≤◌, length};
+ghost use Rattle.outcome.specs.Outcome.{told_by};
 ghost use Rattle.road_sort.specs.Sorted.{Placed, sorted_table};
 ghost use Rattle.road_fill.specs.Filled.{cleared};
 ghost use Rattle.desk_feed.specs.Taken.{table_bytes, begun_with, kept_by, kept_to, sized_by};
 ghost use Rattle.desk_feed.specs.Taken.{stored_by, road_taken, road_stored, taken_by, table_by};
 ghost use Rattle.desk_feed.specs.Taken.{state, state_from, above_by, sized_first, judged_by};
 
-use outcome::Told;
+use outcome::{Outcome, Refusal};
 use road_file::Reader;
 
-const NEWLINE: u8 = 10;
+const NEWLINE: u8 = b'\n';
 
 // How many of the first bytes are kept: a line of seven numbers has at most 77.
 pub const FIRST: usize = 80;
@@ -44,6 +45,7 @@ pub fn begin() -> Taken
 }
 
 // A byte is kept where there is room for it.
+#[tactic(auto, using(crate::proofs::Tests::tests), unfolding(crate::specs::Taken::kept_by, crate::specs::Taken::kept_to))]
 fn keep(first: &mut [u8], n: usize, byte: u8) -> usize
     ensures { (first.new ≡ kept_by first.old n byte)
         × (result ≡ kept_to first.old n) }
@@ -56,27 +58,21 @@ fn keep(first: &mut [u8], n: usize, byte: u8) -> usize
 }
 
 // The number of the `p` line, if that has come now.
+#[tactic(auto, using(crate::proofs::Tests::tests), unfolding(crate::specs::Taken::sized_by))]
 fn sized_next(sized: u32, begun: bool, r: Reader) -> u32
     ensures { result ≡ sized_by sized begun r }
 {
-    if begun {
-        return sized;
-    }
-    if r.begun {
-        return r.lines;
-    }
-    sized
+    if !begun && r.begun { r.lines } else { sized }
 }
 
 // The reader's last arc at its place, where one has come and there is room for it.
+#[tactic(auto, using(crate::proofs::Tests::tests), unfolding(crate::specs::Taken::stored_by))]
 fn store(table: &mut [u8], before: u32, r: Reader)
     requires { table_bytes ≤ length table.old }
     ensures { table.new ≡ stored_by table.old before r }
 {
-    if r.count != before {
-        if before < desk_line::MOST_ARCS {
-            road_fill::fill::place(table, before, r.from, r.to, r.len);
-        }
+    if r.count != before && before < desk_line::MOST_ARCS {
+        road_fill::fill::place(table, before, r.from, r.to, r.len);
     }
 }
 
@@ -86,14 +82,13 @@ fn road_byte(x: Taken, first: usize, byte: u8, table: &mut [u8]) -> Taken
     ensures { (result ≡ road_taken x first byte)
         × (table.new ≡ road_stored table.old x byte) }
 {
-    let reader = x.reader;
-    let r = road_file::feed(reader, byte);
-    store(table, reader.count, r);
+    let reader = road_file::feed(x.reader, byte);
+    store(table, x.reader.count, reader);
     Taken {
-        first: first,
+        first,
         started: true,
-        reader: r,
-        sized: sized_next(x.sized, reader.begun, r),
+        reader,
+        sized: sized_next(x.sized, x.reader.begun, reader),
     }
 }
 
@@ -105,17 +100,13 @@ fn take(x: Taken, byte: u8, first: &mut [u8], table: &mut [u8]) -> Taken
         × (table.new ≡ table_by table.old x byte) }
 {
     let n = keep(first, x.first, byte);
-    if x.started {
+    if x.started || byte == NEWLINE {
         return road_byte(x, n, byte, table);
     }
-    if byte == NEWLINE {
-        return road_byte(x, n, byte, table);
-    }
-    let reader = x.reader;
     Taken {
         first: n,
         started: false,
-        reader: reader,
+        reader: x.reader,
         sized: x.sized,
     }
 }
@@ -127,62 +118,53 @@ pub fn feed(x: Taken, part: &[u8], first: &mut [u8], table: &mut [u8]) -> Taken
         ≡ state_from (state x first.old table.old) part.now }
 {
     let mut y = x;
-    let mut i = 0;
-    while i < part.len() {
-        y = take(y, part[i], first, table);
-        i += 1;
+    for &byte in part {
+        y = take(y, byte, first, table);
     }
     y
 }
 
 // Whether the `p` line is above the limits.
+#[tactic(auto, using(crate::proofs::Tests::tests), unfolding(crate::specs::Taken::above_by))]
 fn above(r: Reader) -> bool
     ensures { result ≡ above_by r }
 {
-    if desk_line::MOST_NODES < r.nodes {
-        return true;
-    }
-    desk_line::MOST_ARCS < r.wanted
+    desk_line::MOST_NODES < r.nodes || desk_line::MOST_ARCS < r.wanted
 }
 
 // Whether it comes before the first wrong line, 0 for none.
+#[tactic(auto, using(crate::proofs::Tests::tests), unfolding(crate::specs::Taken::sized_first))]
 fn sized_first(sized: u32, wrong: u32) -> bool
     ensures { result ≡ sized_first sized wrong }
 {
-    if wrong == 0 {
-        return true;
-    }
-    sized < wrong
+    wrong == 0 || sized < wrong
 }
 
 // Whether it is above the limits, and comes before the first wrong line.
 fn too_large(r: Reader, sized: u32, wrong: u32) -> bool
     ensures { result ≡ (above_by r && sized_first sized wrong) }
 {
-    if above(r) {
-        return sized_first(sized, wrong);
-    }
-    false
+    above(r) && sized_first(sized, wrong)
 }
 
-// 12 or 14 of a road file that ends here, with the line, or 0: the lower line decides.
-pub fn judge(r: Reader, sized: u32) -> Told
-    ensures { result ≡ judged_by r sized }
+// 12 or 14 of a road file that ends here, with the line, where one is due: the lower line decides.
+pub fn judge(r: Reader, sized: u32) -> Result<(), Refusal>
+    ensures { told_by result ≡ judged_by r sized }
 {
     let wrong = road_file::wrong_line(r);
     if too_large(r, sized, wrong) {
-        return Told {
-            outcome: outcome::TEXT,
+        return Err(Refusal {
+            outcome: Outcome::Text,
             number: sized,
-        };
+        });
     }
     if wrong == 0 {
-        return outcome::plain(outcome::FOUND);
+        return Ok(());
     }
-    Told {
-        outcome: outcome::FILE,
+    Err(Refusal {
+        outcome: Outcome::File,
         number: wrong,
-    }
+    })
 }
 
 // The n arcs that were stored, in order.

@@ -46,10 +46,6 @@ marked-within text n j t =
     (λ w. w)
     (order (length text) j)
 
-pub separator-more : (n : ℕ) → (n ≡ 0 → ⊥) → separator n ≡ 32
-separator-more zero h = absurd (h refl)
-separator-more (suc n) h = refl
-
 -- ---- a number and the byte after it
 
 module _ (text : List ℕ) (at mark : ℕ) where

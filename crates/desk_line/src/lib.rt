@@ -13,70 +13,43 @@ pub const MOST_NODES: u32 = 1024;
 
 pub const MOST_ARCS: u32 = 4096;
 
-const SPACE: u8 = 32;
+const SPACE: u8 = b' ';
 
-const NEWLINE: u8 = 10;
-
-// The place after a line, or that it is malformed.
-#[derive(Clone, Copy)]
-pub enum Next {
-    At(usize),
-    Malformed,
-}
+const NEWLINE: u8 = b'\n';
 
 // What follows a number that `left` more numbers follow in its line.
 fn mark_after(left: usize) -> u8
     ensures { result ≡ separator left }
 {
-    if left == 0 {
-        return NEWLINE;
-    }
-    SPACE
+    if left == 0 { NEWLINE } else { SPACE }
 }
 
 // The number at `at`, where the byte after it is `mark`; its second value is that byte's place.
-fn number_before(text: &[u8], at: usize, mark: u8) -> Numeral
+fn number_before(text: &[u8], at: usize, mark: u8) -> Option<Numeral>
     requires { (at ≤ length text.now) × (0 < mark) }
     ensures { read_of at result ≡ number_before mark text.now at }
 {
-    let x = numerals::read(text, at);
-    match x {
-        Numeral::Number(v, next) => {
-            if text.len() <= next {
-                return Numeral::NoNumber;
-            }
-            if text[next] != mark {
-                return Numeral::NoNumber;
-            }
-            Numeral::Number(v, next)
-        }
-        Numeral::NoNumber => Numeral::NoNumber,
+    let number = numerals::read(text, at)?;
+    if number.next < text.len() && text[number.next] == mark {
+        return Some(number);
     }
+    None
 }
 
-// A line of as many numbers as `into` has, from place `at` on.
-pub fn line(text: &[u8], at: usize, into: &mut [u32]) -> Next
+// A line of as many numbers as `into` has, from place `at` on: the place after it, unless it is
+// malformed.
+pub fn line(text: &[u8], at: usize, into: &mut [u32]) -> Option<usize>
     requires { at ≤ length text.now }
     ensures { (length into.new ≡ length into.old)
         × (line_of result into.new
         ≡ line_from (length into.old) text.now at) }
 {
     let n = into.len();
-    let mut p = at;
-    let mut i = 0;
-    while i < n {
-        let mark = mark_after(n - (i + 1));
-        let x = number_before(text, p, mark);
-        match x {
-            Numeral::Number(v, next) => {
-                into[i] = v;
-                p = next + 1;
-                i += 1;
-            }
-            Numeral::NoNumber => {
-                return Next::Malformed;
-            }
-        }
+    let mut place = at;
+    for (i, value) in into.iter_mut().enumerate() {
+        let number = number_before(text, place, mark_after(n - (i + 1)))?;
+        *value = number.value;
+        place = number.next + 1;
     }
-    Next::At(p)
+    Some(place)
 }

@@ -12,6 +12,7 @@ use borrow.Author.Tests.{ltb-false, eq-eqb, ne_eqb}
 use lib.Dec.{ltb, eqb}
 use lib.ListN.{length, get_or, take, replicate, length-replicate}
 use Rattle.net.specs.Net.{Arc}
+use Rattle.std.specs.Prelude.{Ok, Err}
 use Rattle.outcome.specs.declared.Told.{Told}
 use Rattle.outcome.specs.Outcome.{beside}
 use Rattle.table.specs.Table.{record_bytes, table_of}
@@ -84,14 +85,14 @@ sayable text = with-header text (line_from 7 text 0)
 
 -- ---- what was read of a text
 
-module _ (text : List ℕ) (x : Asked) (l l' : List ℕ) (r : TextRead text x l l') where
-  pub turned-malformed : x.line ≢ 0 → refused_text (beside Rattle.outcome.specs.Outcome.text x.line) ≡ turned_text text
+module _ (text : List ℕ) (n : ℕ) (l l' : List ℕ) (r : TextRead text (Err n) l l') where
+  pub turned-malformed : refused_text (beside Rattle.outcome.specs.Outcome.text n) ≡ turned_text text
   unfolding turned_text turned_for
-  turned-malformed h = go (said text) r.is
+  turned-malformed = go (said text) r.is
     where
-      go : (s : Said) → text_read s x l l' → refused_text (beside Rattle.outcome.specs.Outcome.text x.line) ≡ turned_for s
-      go (asks vs xs) w = absurd (h w.0)
-      go (malformed n) w = ap (λ m. refused_text (beside Rattle.outcome.specs.Outcome.text m)) w
+      go : (s : Said) → text_read s (Err n) l l' → refused_text (beside Rattle.outcome.specs.Outcome.text n) ≡ turned_for s
+      go (asks vs xs) w = absurd w
+      go (malformed m) w = ap (λ k. refused_text (beside Rattle.outcome.specs.Outcome.text k)) w
 
 -- what was read of the numbers vs
 same : (x : Asked) (vs : List ℕ) (xs : List Arc) → vs ≡ x.nodes ∷ x.arcs ∷ x.s ∷ x.goal ∷ x.k ∷ x.a ∷ x.b ∷ [] → turned_of x (table_of xs) ≡ turned_for (asks vs xs)
@@ -107,23 +108,23 @@ pub record Asking (text : List ℕ) (x : Asked) (l : List ℕ) : Type 0 where
 abbrev old_table : List ℕ
 old_table = replicate (most_arcs_read * record_bytes) 0
 
-pub asks-old : (text : List ℕ) (x : Asked) (l : List ℕ) → TextRead text x old_table l → x.line ≡ 0 → Asking text x l
+pub asks-old : (text : List ℕ) (x : Asked) (l : List ℕ) → TextRead text (Ok x) old_table l → Asking text x l
 unfolding turned_text
-asks-old text x l r h = go (said text) refl (sayable text) r.is
+asks-old text x l r = go (said text) refl (sayable text) r.is
   where
     size : length l ≡ most_arcs_read * record_bytes
     size = r.long ∙ length-replicate {A = ℕ} (most_arcs_read * record_bytes) 0
 
-    go : (s : Said) → said text ≡ s → Sayable s → text_read s x old_table l → Asking text x l
-    go (malformed m) e k w = absurd (omega arith)
+    go : (s : Said) → said text ≡ s → Sayable s → text_read s (Ok x) old_table l → Asking text x l
+    go (malformed m) e k w = absurd w
     go (asks vs xs) e k w =
-        let v : (get_or vs 0 0 ≡ x.nodes) × (get_or vs 1 0 ≡ x.arcs) = (ap (λ ys. get_or ys 0 0) w.1, ap (λ ys. get_or ys 1 0) w.1) in
+        let v : (get_or vs 0 0 ≡ x.nodes) × (get_or vs 1 0 ≡ x.arcs) = (ap (λ ys. get_or ys 0 0) w.0, ap (λ ys. get_or ys 1 0) w.0) in
         let table : take (x.arcs * record_bytes - 0) l ≡ table_of xs =
-        ap₂ take (sub-zero (x.arcs * record_bytes) ∙ ap (λ m. m * record_bytes) (sym w.2)) w.3 ∙ table-put xs (most_arcs_read * record_bytes) (omega (arith, k.1, v.1, w.2)) in
+        ap₂ take (sub-zero (x.arcs * record_bytes) ∙ ap (λ m. m * record_bytes) (sym w.1)) w.2 ∙ table-put xs (most_arcs_read * record_bytes) (omega (arith, k.1, v.1, w.1)) in
         record {
           long = omega (arith, k.1, v.1, size);
           most = omega (arith, k.1, v.1);
-          due = ap (turned_of x) table ∙ same x vs xs w.1 ∙ ap turned_for (sym e);
+          due = ap (turned_of x) table ∙ same x vs xs w.0 ∙ ap turned_for (sym e);
         }
 
 -- ---- what is due of it

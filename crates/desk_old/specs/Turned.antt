@@ -6,7 +6,7 @@ use Rattle.table.specs.Table.{table_of}
 use Rattle.text_put.specs.Put.{Appended}
 use Rattle.desk_output.specs.Line.{route_text}
 use Rattle.road_write.specs.Written.{text_of}
-use Rattle.query.specs.Query.{Input, reaches, tells_due}
+use Rattle.query.specs.Query.{reaches, tells_due}
 use Rattle.desk_text.specs.Desk.{refused_text}
 use Rattle.desk_old_input.specs.Text.{Said, asks, malformed, said}
 use Rattle.desk_old_input.specs.declared.Asked.{Asked}

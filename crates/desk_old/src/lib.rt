@@ -3,6 +3,7 @@
 
 ghost use Rattle.std.specs.Prelude.{◌≡◌, ◌*◌, ◌≤◌, length, take};
 ghost use Rattle.table.specs.Table.{record_bytes};
+ghost use Rattle.outcome.specs.Outcome.{told_by};
 ghost use Rattle.query.specs.Query.{refused_of};
 ghost use Rattle.text_put.specs.Put.{Appended};
 ghost use Rattle.desk_line.specs.Limits.{most_arcs_read};
@@ -11,7 +12,7 @@ ghost use Rattle.desk_old.specs.Turned.{written, turned_text, most_turned, Turne
 ghost use Rattle.desk_old.specs.Read.{asking, turned_of};
 
 use desk_old_input::Asked;
-use outcome::Told;
+use outcome::{Outcome, Refusal, Told};
 use query::Wish;
 
 // The room that any text fits in.
@@ -24,9 +25,9 @@ pub const MOST_READ: usize = 262144;
 // A table of 4,096 arcs.
 const TABLE: usize = 65536;
 
-// The refusal of the query that was asked, or 0.
-fn judge(table: &[u8], x: Asked) -> Told
-    ensures { result ≡ refused_of (read_query (asking x) table.now) }
+// Whether the query that was asked is refused.
+fn judge(table: &[u8], x: Asked) -> Result<(), Refusal>
+    ensures { told_by result ≡ refused_of (read_query (asking x) table.now) }
 {
     let labels = [0u8; desk_text::DESK_LABELS * labels::field::LABEL];
     let area = [0u32; desk_text::DESK_WORDS];
@@ -58,9 +59,8 @@ fn turn_asked(table: &[u8], x: Asked, out: &mut [u8]) -> usize
     ensures { Appended out.old 0 (turned_of x table.now)
         out.new result }
 {
-    let told = judge(table, x);
-    if told.outcome != outcome::FOUND {
-        return desk_text::print::refused(out, told);
+    if let Err(refusal) = judge(table, x) {
+        return desk_text::print::refused(out, Told::from(refusal));
     }
     write(table, x, out)
 }
@@ -72,16 +72,13 @@ fn turned(text: &[u8], out: &mut [u8]) -> usize
         out.new result }
 {
     let mut table = [0u8; TABLE];
-    let x = desk_old_input::read(text, &mut table);
-    if x.line != 0 {
-        let told = Told {
-            outcome: outcome::TEXT,
-            number: x.line,
-        };
-        return desk_text::print::refused(out, told);
+    match desk_old_input::read(text, &mut table) {
+        Ok(x) => {
+            let m = x.arcs as usize * table::arc::RECORD;
+            turn_asked(&table[0..m], x, out)
+        }
+        Err(line) => desk_text::print::refused(out, Outcome::Text.beside(line)),
     }
-    let m = x.arcs as usize * table::arc::RECORD;
-    turn_asked(&table[0..m], x, out)
 }
 
 // The text of the new form that is due for one of the old, at the front of `out`; how many bytes it

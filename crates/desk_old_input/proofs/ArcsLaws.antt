@@ -10,6 +10,7 @@ use native.Mathlib.Omega.{arith}
 use borrow.Author.Tests.{eq-eqb, ne_eqb}
 use lib.Dec.{eqb}
 use lib.ListN.{length, get_or, drop, length-append}
+use Rattle.std.specs.Prelude.{Ok, Err}
 use Rattle.lists.proofs.Cases.{cases}
 use Rattle.net.specs.Net.{Arc}
 use Rattle.numerals.specs.Decimal.{Number, number}
@@ -17,7 +18,6 @@ use Rattle.desk_line.specs.Line.{Row, separator, prepend, with_number, past, lin
 use Rattle.desk_old_input.specs.Text.{ArcLines, all, bad, with_arc, arc_in, with_row, arcs_from}
 use Rattle.table.specs.Table.{put_arc, put_arcs}
 use Rattle.desk_old_input.specs.Parsed.{arcs_read}
-use Rattle.desk_old_input.specs.declared.ArcsRead.TheVariants.{All, Bad}
 use Rattle.desk_line.proofs.LineLaws.{marked-within}
 
 -- ---- where a line ends
@@ -121,12 +121,12 @@ module _ (text : List ℕ) (m i p : ℕ) (whole : ArcLines) (l l' : List ℕ) (h
       let left : m - i ≡ 0 = omega arith in
       sym (rw (left, ne_eqb p (length text) ne) at h.rest) ∙ in_front-bad h.arcs (i + 2) ∙ ap (λ n. bad (n + 2)) k
 
-  pub passed-all : i ≡ m → p ≡ length text → arcs_read whole All l l'
+  pub passed-all : {X : Type 0} (x : X) → i ≡ m → p ≡ length text → arcs_read whole (Ok x) l l'
   unfolding arcs_from
-  passed-all k e =
+  passed-all x k e =
       let left : m - i ≡ 0 = omega arith in
       let w : whole ≡ all h.arcs = sym (rw (left, eq-eqb p (length text) e) at h.rest) ∙ in_front-none h.arcs in
       rw w h.table
 
-pub told-bad : (whole : ArcLines) (n : ℕ) (l l' : List ℕ) → whole ≡ bad n → arcs_read whole (Bad n) l l'
-told-bad whole n l l' e = rw e
+pub told-bad : (X : Type 0) (whole : ArcLines) (n : ℕ) (l l' : List ℕ) → whole ≡ bad n → arcs_read {X = X} whole (Err n) l l'
+told-bad X whole n l l' e = rw e

@@ -10,13 +10,13 @@ use native.Mathlib.Omega.{arith}
 use borrow.Author.Tests.{lt-ltb, le-ltb, ltb-false}
 use lib.Dec.{ltb, eqb}
 use lib.ListN.{length, get_or}
+use Rattle.std.specs.Prelude.{Ok, Err}
 use Rattle.lists.proofs.Cases.{cases}
 use Rattle.net.specs.Net.{Arc}
 use Rattle.desk_line.specs.Line.{Row, line_from, after}
 use Rattle.desk_line.specs.Limits.{most_nodes_read, most_arcs_read}
 use Rattle.desk_old_input.specs.Text.{ArcLines, all, bad, with_arc, arc_in, with_row, arcs_from, Said, asks, malformed, with_arcs, with_header, said}
 use Rattle.desk_old_input.specs.Parsed.{arcs_read, text_read}
-use Rattle.desk_old_input.specs.declared.ArcsRead.TheVariants.{All, Bad}
 use Rattle.desk_old_input.specs.declared.Asked.{Asked}
 
 -- ---- the first line
@@ -39,8 +39,8 @@ module _ (text : List ℕ) where
     unfolding said with_header
     said-is a k = rw (h, le-ltb most_nodes_read (get_or row 0 0) a, le-ltb most_arcs_read (get_or row 1 0) k)
 
-pub told-malformed : (w : Said) (n : ℕ) (r : Asked) (l l' : List ℕ) → w ≡ malformed n → r.line ≡ n → text_read w r l l'
-told-malformed w n r l l' e k = rw e k
+pub told-malformed : (w : Said) (n : ℕ) (l l' : List ℕ) → w ≡ malformed n → text_read w (Err n) l l'
+told-malformed w n l l' e = rw e
 
 -- ---- the arc lines
 
@@ -73,16 +73,16 @@ arcs-count (suc m) text at n xs e = go (λ p ys. arcs-count m text p (n + 1) ys)
         let w = with_arc-all (arc_in r.values) (arcs_from m text r.next (n + 1)) xs k in
         ap length w.2 ∙ ap suc (below r.next w.0 w.1)
 
-pub told-asks : (a : ArcLines) (row : List ℕ) (r : Asked) (l l' : List ℕ) → ((xs : List Arc) → a ≡ all xs → length xs ≡ r.arcs) → r.line ≡ 0
-    → row ≡ r.nodes ∷ r.arcs ∷ r.s ∷ r.goal ∷ r.k ∷ r.a ∷ r.b ∷ [] → arcs_read a All l l' → text_read (with_arcs row a) r l l'
+pub told-asks : {X : Type 0} (x : X) (a : ArcLines) (row : List ℕ) (r : Asked) (l l' : List ℕ) → ((xs : List Arc) → a ≡ all xs → length xs ≡ r.arcs)
+    → row ≡ r.nodes ∷ r.arcs ∷ r.s ∷ r.goal ∷ r.k ∷ r.a ∷ r.b ∷ [] → arcs_read a (Ok x) l l' → text_read (with_arcs row a) (Ok r) l l'
 unfolding with_arcs
-told-asks (all xs) row r l l' count fine numbers h = (fine, numbers, count xs refl, h)
-told-asks (bad n) row r l l' count fine numbers h = absurd h
+told-asks x (all xs) row r l l' count numbers h = (numbers, count xs refl, h)
+told-asks x (bad n) row r l l' count numbers h = absurd h
 
-pub told_line : (a : ArcLines) (row : List ℕ) (r : Asked) (n : ℕ) (l l' : List ℕ) → r.line ≡ n → arcs_read a (Bad n) l l' → text_read (with_arcs row a) r l l'
+pub told_line : (X : Type 0) (a : ArcLines) (row : List ℕ) (n : ℕ) (l l' : List ℕ) → arcs_read {X = X} a (Err n) l l' → text_read (with_arcs row a) (Err n) l l'
 unfolding with_arcs
-told_line (all xs) row r n l l' k h = absurd h
-told_line (bad m) row r n l l' k h = k ∙ h
+told_line X (all xs) row n l l' h = absurd h
+told_line X (bad m) row n l l' h = h
 
 -- ---- what a text says is within the limits
 

@@ -12,10 +12,8 @@ fn numbers(out: &mut [u8], at: usize, vs: &[u32]) -> usize
         out.new result }
 {
     let mut next = at;
-    let mut i = 0;
-    while i < vs.len() {
-        next = text_put::spaced(out, next, vs[i] as u64);
-        i += 1;
+    for &v in vs {
+        next = text_put::spaced(out, next, v as u64);
     }
     next
 }
@@ -30,6 +28,6 @@ pub fn route(out: &mut [u8], at: usize, round: u64, len: u64, labels: u64, arcs:
     let second = text_put::spaced(out, first, len);
     let third = text_put::spaced(out, second, labels);
     let last = numbers(out, third, arcs);
-    out[last] = 10;
+    out[last] = b'\n';
     last + 1
 }

@@ -1,5 +1,5 @@
 -- What the first line is, by how its seven and its five numbers were read; and 77 bytes of a text tell it, since no line of seven numbers is longer.
-use mathlib.Core.Path.{◌≡◌, ap₂, ◌∙◌}
+use mathlib.Core.Path.{◌≡◌, ap₂}
 use mathlib.Core.List.{List}
 use mathlib.Core.Option.{Option, none, some}
 use Prim.Native.Nat.{ℕ, ◌≤◌}
@@ -7,6 +7,8 @@ use native.Mathlib.Omega.{arith}
 use lib.ListN.{take}
 use Rattle.desk_line.specs.Line.{Row, line_from}
 use Rattle.desk_line.proofs.CutLaws.{line-cut}
+use Rattle.std.specs.Prelude.{Result}
+use Rattle.outcome.specs.declared.Refusal.{Refusal}
 use Rattle.desk_query.specs.declared.Query.{Query}
 use Rattle.desk_query.specs.Query.{First, old, malformed, query, as_query, unless_old, first_in}
 use Rattle.desk_query.specs.Told.{FirstRead}
@@ -33,5 +35,5 @@ module _ (text : List ℕ) where
   unfolding first_in
   first-cut c h = ap₂ (λ x y. unless_old x (as_query y)) (line-cut 7 c text 0 (omega arith)) (line-cut 5 c text 0 (omega arith))
 
-pub read_as : (x y : First) (q : Query) → x ≡ y → FirstRead y q → FirstRead x q
+pub read_as : (x y : First) (q : Result Query Refusal) → x ≡ y → FirstRead y q → FirstRead x q
 read_as x y q e h = rw e h

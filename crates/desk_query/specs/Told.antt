@@ -1,14 +1,17 @@
 -- What is told of the first line.
-use Rattle.std.specs.Prelude.{◌≡◌, List, [], ◌∷◌, ℕ}
-use Rattle.outcome.specs.Outcome.{found, text, old_form, plain, beside}
+use Rattle.std.specs.Prelude.{◌≡◌, List, [], ◌∷◌, ℕ, Result, Ok, Err}
+use Rattle.outcome.specs.declared.Refusal.{Refusal}
+use Rattle.outcome.specs.Outcome.{text, old_form, plain, beside, told_by}
 use Rattle.desk_query.specs.declared.Query.{Query}
 use Rattle.desk_query.specs.Query.{First, old, malformed, query}
 
-abbrev pub refused_with : ℕ → ℕ → Query
-refused_with outcome line = record { told = beside outcome line; s = 0; goal = 0; k = 0; a = 0; b = 0 }
+-- The numbers are those of the query; it is not refused.
+abbrev pub NumbersRead : List ℕ → Result Query Refusal → Type 0
+NumbersRead vs (Ok q) = vs ≡ q.s ∷ q.goal ∷ q.k ∷ q.a ∷ q.b ∷ []
+NumbersRead vs (Err x) = ⊥
 
 -- "25, old form", with no line; "12 [...] for a malformed query line", which is line 1; else the five numbers.
-abbrev pub FirstRead : First → Query → Type 0
-FirstRead old q = q.told ≡ plain old_form
-FirstRead malformed q = q.told ≡ beside text 1
-FirstRead (query vs) q = (q.told ≡ plain found) × (vs ≡ q.s ∷ q.goal ∷ q.k ∷ q.a ∷ q.b ∷ [])
+abbrev pub FirstRead : First → Result Query Refusal → Type 0
+FirstRead old r = told_by r ≡ plain old_form
+FirstRead malformed r = told_by r ≡ beside text 1
+FirstRead (query vs) r = NumbersRead vs r

@@ -1,18 +1,15 @@
 // The first line of the desk program's input: the query, unless it is the old form's or malformed.
 #![tactic(auto)]
 
-ghost use Rattle.std.specs.Prelude.{◌≡◌};
 ghost use Rattle.desk_line.specs.Line.{line_from};
 ghost use Rattle.desk_query.specs.Query.{first_in, as_query};
-ghost use Rattle.desk_query.specs.Told.{refused_with, FirstRead};
+ghost use Rattle.desk_query.specs.Told.{FirstRead};
 
-use desk_line::Next;
-use outcome::Told;
+use outcome::{Outcome, Refusal};
 
-// What is told of the line, 0 where it is a query, and the query's numbers.
-#[derive(Drop)]
+// The query's numbers.
+#[derive(Clone, Copy, Debug, PartialEq, Eq)]
 pub struct Query {
-    pub told: Told,
     pub s: u32,
     pub goal: u32,
     pub k: u32,
@@ -20,49 +17,33 @@ pub struct Query {
     pub b: u32,
 }
 
-fn refused(outcome: u32, line: u32) -> Query
-    ensures { result ≡ refused_with outcome line }
-{
-    Query {
-        told: Told {
-            outcome: outcome,
-            number: line,
-        },
-        s: 0,
-        goal: 0,
-        k: 0,
-        a: 0,
-        b: 0,
-    }
-}
-
 // The query, where the line is not of the old form.
-fn five(text: &[u8]) -> Query
+fn five(text: &[u8]) -> Result<Query, Refusal>
     ensures { FirstRead (as_query (line_from 5 text.now 0)) result }
 {
     let mut row = [0u32; 5];
-    let x = desk_line::line(text, 0, &mut row);
-    match x {
-        Next::At(next) => Query {
-            told: outcome::plain(outcome::FOUND),
+    match desk_line::line(text, 0, &mut row) {
+        Some(_) => Ok(Query {
             s: row[0],
             goal: row[1],
             k: row[2],
             a: row[3],
             b: row[4],
-        },
-        Next::Malformed => refused(outcome::TEXT, 1),
+        }),
+        None => Err(Refusal {
+            outcome: Outcome::Text,
+            number: 1,
+        }),
     }
 }
 
 // What the first line of a text is.
-pub fn read(text: &[u8]) -> Query
+pub fn read(text: &[u8]) -> Result<Query, Refusal>
     ensures { FirstRead (first_in text.now) result }
 {
     let mut row = [0u32; 7];
-    let x = desk_line::line(text, 0, &mut row);
-    match x {
-        Next::At(next) => refused(outcome::OLD_FORM, 0),
-        Next::Malformed => five(text),
+    match desk_line::line(text, 0, &mut row) {
+        Some(_) => Err(Refusal::plain(Outcome::OldForm)),
+        None => five(text),
     }
 }

@@ -1,14 +1,17 @@
 -- Where an input ends. What the first bytes are is what its first line is, so the query's refusal is due, or what its road file gives; and that is the refusal which the
 -- reader tells, or the reply over the table of its arcs in order.
 use mathlib.Core.Path.{◌≡◌, sym, ap, subst, ◌∙◌}
-use mathlib.Core.List.{List, [], ◌∷◌, ◌++◌}
+use mathlib.Core.List.{List, [], ◌∷◌}
 use mathlib.Core.Logic.{◌≢◌}
 use Prim.Native.Nat.{ℕ, ◌-◌, ◌*◌, ◌≤◌}
 use native.Mathlib.Nat.{sub-zero}
 use native.Mathlib.Omega.{arith}
 use lib.ListN.{length, take, drop, replicate, length-take, length-replicate}
 use lib.Seq.{take_all, take_at}
+use Rattle.std.specs.Prelude.{Ok, Err}
 use Rattle.outcome.specs.declared.Told.{Told}
+use Rattle.outcome.specs.declared.Refusal.{Refusal}
+use Rattle.outcome.specs.Outcome.{told_of}
 use Rattle.table.specs.Table.{table_of}
 use Rattle.table.proofs.TableLaws.{length-table_of}
 use Rattle.text_put.specs.Put.{Appended}
@@ -50,24 +53,24 @@ part-whole x y first table part first' table' n h e = rw (take_all n part h) (pa
 
 -- ---- the first line
 
-module _ (input : List ℕ) (q : Query) (r : FirstRead (first_in input) q) where
-  pub first-refused : q.told.outcome ≢ 0 → refused_text q.told ≡ desk_text input
+module _ (input : List ℕ) where
+  pub first-refused : (x : Refusal) → FirstRead (first_in input) (Err x) → refused_text (told_of x) ≡ desk_text input
   unfolding desk_text text_for
-  first-refused ne = go (first_in input) r
+  first-refused x r = go (first_in input) r
     where
-      go : (x : First) → FirstRead x q → refused_text q.told ≡ text_for x (judged (road_in input))
+      go : (f : First) → FirstRead f (Err x) → refused_text (told_of x) ≡ text_for f (judged (road_in input))
       go old w = ap refused_text w
       go malformed w = ap refused_text w
-      go (query vs) w = absurd (ne (ap (λ (t : Told). t.outcome) w.0))
+      go (query vs) w = absurd w
 
-  pub first-query : q.told.outcome ≡ 0 → file_text (q.s ∷ q.goal ∷ q.k ∷ q.a ∷ q.b ∷ []) (judged (road_in input)) ≡ desk_text input
+  pub first-query : (q : Query) → FirstRead (first_in input) (Ok q) → file_text (q.s ∷ q.goal ∷ q.k ∷ q.a ∷ q.b ∷ []) (judged (road_in input)) ≡ desk_text input
   unfolding desk_text text_for
-  first-query e = go (first_in input) r
+  first-query q r = go (first_in input) r
     where
-      go : (x : First) → FirstRead x q → file_text (q.s ∷ q.goal ∷ q.k ∷ q.a ∷ q.b ∷ []) (judged (road_in input)) ≡ text_for x (judged (road_in input))
-      go old w = absurd (omega (arith, e, ap (λ (t : Told). t.outcome) w))
-      go malformed w = absurd (omega (arith, e, ap (λ (t : Told). t.outcome) w))
-      go (query vs) w = ap (λ v. file_text v (judged (road_in input))) (sym w.1)
+      go : (f : First) → FirstRead f (Ok q) → file_text (q.s ∷ q.goal ∷ q.k ∷ q.a ∷ q.b ∷ []) (judged (road_in input)) ≡ text_for f (judged (road_in input))
+      go old w = absurd (omega (arith, ap (λ (t : Told). t.outcome) w))
+      go malformed w = absurd (omega (arith, ap (λ (t : Told). t.outcome) w))
+      go (query vs) w = ap (λ v. file_text v (judged (road_in input))) (sym w)
 
 module _ (input : List ℕ) (x : Taken) (first table : List ℕ) (k : KeptOf x first table input) where
   taken_is : x ≡ (state_of input).taken

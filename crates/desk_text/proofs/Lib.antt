@@ -3,3 +3,4 @@ pub mod RoundsLaws
 pub mod ShapeLaws
 pub mod DeskLaws
 pub mod FinishLaws
+pub mod Tests

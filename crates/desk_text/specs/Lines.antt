@@ -1,5 +1,5 @@
 -- The lines of a query's rounds, from the numbers that it left.
-use Rattle.std.specs.Prelude.{◌≡◌, List, [], ◌∷◌, ◌++◌, ℕ, zero, suc, ◌+◌, ◌*◌, ◌≤◌, ◌<◌, get_or, take, drop}
+use Rattle.std.specs.Prelude.{◌≡◌, List, [], ◌++◌, ℕ, zero, suc, ◌+◌, ◌*◌, ◌≤◌, ◌<◌, get_or, take, drop}
 use Rattle.desk_output.specs.Line.{route_text}
 use Rattle.summary.specs.declared.Sums.{Sums}
 

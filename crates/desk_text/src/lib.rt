@@ -14,6 +14,7 @@ ghost use Rattle.desk_text.specs.Written.{Written, most_text};
 
 use desk_feed::Taken;
 use desk_query::Query;
+use outcome::Told;
 use query_rounds::Got;
 
 // The room that any answer fits in.
@@ -42,10 +43,8 @@ fn show_rounds(out: &mut [u8], g: Got, nodes: u32, k: u32, area: &[u32]) -> usiz
     ensures { ShownEnd g nodes k area.now
         out.old out.new result }
 {
-    let told = g.told;
-    let sums = g.sums;
     let w = nodes as usize - 1;
-    print::ended(out, told.outcome, k as usize, w, sums, area)
+    print::ended(out, g.told.outcome, k as usize, w, g.sums, area)
 }
 
 // The lines of any query that gave `g`: of its rounds, where it has summaries to write.
@@ -56,8 +55,7 @@ fn show(out: &mut [u8], g: Got, nodes: u32, k: u32, area: &[u32]) -> usize
         out.old out.new result }
 {
     if g.n == 0 {
-        let told = g.told;
-        return print::refused(out, told);
+        return print::refused(out, g.told);
     }
     show_rounds(out, g, nodes, k, area)
 }
@@ -93,9 +91,8 @@ fn finish_road(x: Taken, q: Query, table: &mut [u8], out: &mut [u8]) -> usize
         out.old out.new result }
 {
     let reader = x.reader;
-    let told = desk_feed::judge(reader, x.sized);
-    if told.outcome != outcome::FOUND {
-        return print::refused(out, told);
+    if let Err(refusal) = desk_feed::judge(reader, x.sized) {
+        return print::refused(out, Told::from(refusal));
     }
     let n = reader.count as usize;
     desk_feed::order(table, n);
@@ -118,11 +115,10 @@ pub fn finish(x: Taken, first: &[u8], table: &mut [u8], out: &mut [u8]) -> usize
         out.old out.new result }
 {
     let n = x.first;
-    let q = desk_query::read(&first[0..n]);
-    if q.told.outcome != outcome::FOUND {
-        return print::refused(out, q.told);
+    match desk_query::read(&first[0..n]) {
+        Ok(q) => finish_road(x, q, table, out),
+        Err(refusal) => print::refused(out, Told::from(refusal)),
     }
-    finish_road(x, q, table, out)
 }
 
 // The answer to a text, into a buffer that any answer fits in.

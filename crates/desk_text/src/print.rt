@@ -11,19 +11,11 @@ ghost use Rattle.desk_text.specs.Lines.{lines_from, Leading};
 use outcome::Told;
 
 // Whether a number stands beside the outcome.
+#[tactic(auto, using(crate::proofs::Tests::tests), unfolding(crate::specs::Desk::has_number))]
 fn has_number(outcome: u32) -> bool
     ensures { result ≡ has_number outcome }
 {
-    if outcome < 2 {
-        return false;
-    }
-    if outcome <= 6 {
-        return true;
-    }
-    if outcome == 12 {
-        return true;
-    }
-    outcome == 14
+    (outcome >= 2 && outcome <= 6) || outcome == 12 || outcome == 14
 }
 
 // A space and the number, where one stands beside the outcome.
@@ -33,7 +25,7 @@ fn beside(out: &mut [u8], at: usize, outcome: u32, number: u32) -> usize
         out.new result }
 {
     if has_number(outcome) {
-        out[at] = 32;
+        out[at] = b' ';
         return numerals::write(out, at + 1, number as u64);
     }
     at
@@ -47,7 +39,7 @@ pub fn refused(out: &mut [u8], told: Told) -> usize
     let first = text_put::bytes(out, 0, b"refused ");
     let second = numerals::write(out, first, told.outcome as u64);
     let last = beside(out, second, told.outcome, told.number);
-    out[last] = 10;
+    out[last] = b'\n';
     last + 1
 }
 
@@ -56,15 +48,12 @@ fn leading(sums: summary::Sums, k: usize) -> usize
     requires { k ≤ most_routes }
     ensures { Leading sums k result }
 {
-    let arcs = sums.arcs;
-    let mut j = 0;
-    while j < k {
-        if arcs[j] == 0 {
+    for j in 0..k {
+        if sums.arcs[j] == 0 {
             return j;
         }
-        j += 1;
     }
-    j
+    k
 }
 
 // The first line.
@@ -77,7 +66,7 @@ fn head(out: &mut [u8], outcome: u32, count: usize) -> usize
     let second = numerals::write(out, first, outcome as u64);
     let third = text_put::bytes(out, second, b" routes ");
     let last = numerals::write(out, third, count as u64);
-    out[last] = 10;
+    out[last] = b'\n';
     last + 1
 }
 
@@ -96,13 +85,11 @@ fn lines(
         (lines_from sums w area.now count 0) out.new result }
 {
     let mut next = at;
-    let mut j = 0;
-    while j < count {
+    for j in 0..count {
         let s = summary::at(sums, j);
         let a = j * w;
         let e = a + s.arcs as usize;
         next = desk_output::route(out, next, (j + 1) as u64, s.length, s.labels, &area[a..e]);
-        j += 1;
     }
     next
 }
@@ -114,7 +101,7 @@ fn none(out: &mut [u8], at: usize, labels: u64) -> usize
 {
     let first = text_put::bytes(out, at, b"none ");
     let last = numerals::write(out, first, labels);
-    out[last] = 10;
+    out[last] = b'\n';
     last + 1
 }
 

@@ -6,6 +6,7 @@ use mathlib.Core.Logic.{◌≢◌, ◌⊎◌, inl, inr}
 use mathlib.Core.Bool.{Bool, true, false, not, ◌&&◌}
 use mathlib.Core.List.Memᴰ
 use mathlib.Core.List.{List, [], ◌∷◌, ◌++◌, Memᴰ}
+use Rattle.std.proofs.Common.{Some, None}
 use Prim.Native.Nat.{ℕ, zero, suc, ◌+◌, ◌-◌, ◌*◌, ◌≤◌, ◌<◌}
 use native.Mathlib.Nat.{add-zero}
 use native.Mathlib.Omega.{arith}
@@ -88,17 +89,17 @@ module _ (t l : List ℕ) (v a : ℕ) where
 -- ---- what going up makes of the state
 
 module _ (t : List ℕ) (s : ℕ) (l : List ℕ) (x : At) where
-  pub up-over : x.v ≡ s → up_from t s l x ≡ record { v = x.v; arc = x.arc; many = x.many; over = true }
+  pub up-over : x.v ≡ s → up_from t s l x ≡ None
   unfolding up_from
   up-over e = rw (eq-eqb x.v s e)
 
-  pub up-back : (a : ℕ) → x.v ≢ s → last_in forth l x.v ≡ a → up_from t s l x ≡ record { v = from_at t a; arc = a + 1; many = x.many; over = false }
+  pub up-back : (a : ℕ) → x.v ≢ s → last_in forth l x.v ≡ a → up_from t s l x ≡ Some (record { v = from_at t a; arc = a + 1; many = x.many })
   unfolding up_from
   up-back a ne e = rw (ne_eqb x.v s ne, e)
 
-left_over : (nodes : ℕ) (t : List ℕ) (s : ℕ) (l : List ℕ) (v a m : ℕ) → left nodes t s l (record { v = v; arc = a; many = m; over = true }) ≡ 0
+left_over : (nodes : ℕ) (t : List ℕ) (s : ℕ) (l : List ℕ) → left nodes t s l None ≡ 0
 unfolding left
-left_over nodes t s l v a m = refl
+left_over nodes t s l = refl
 
 module _ (nodes : ℕ) (t closed : List ℕ) (s : ℕ) (l : List ℕ) (r : Ready nodes t closed s l) where
   positive : (a : ℕ) → 0 < (arc (arcs_of t) a).len
@@ -189,15 +190,15 @@ module _ (nodes : ℕ) (t closed : List ℕ) (s : ℕ) (l : List ℕ) (r : Ready
     pub v_below : x.v < nodes
     v_below = omega (arith, w.ends, end_below (net_of nodes t closed) s r.s-below (table-sound nodes t r.measured.no-fault closed).to_below w.stack)
 
-    left_is : x.over ≡ false → left nodes t s l x ≡ unentered nodes l * (records t + 2) + above t w.stack + (records t + 1 - x.arc)
+    left_is : left nodes t s l (Some x) ≡ unentered nodes l * (records t + 2) + above t w.stack + (records t + 1 - x.arc)
     unfolding left
-    left_is z =
+    left_is =
         let d = w.deep in
         let e : length_of (arcs_of t) w.stack ≡ long_at 12 l x.v =
         short-length (net_of nodes t closed) s (dist_in forth nodes l) r.steady positive w.stack d.stack ∙ ap (dist_in forth nodes l) w.ends ∙ dist-at forth nodes l x.v v_below in
         let b : behind (long_at 12 l x.v) t s l x.v ≡ above t w.stack =
         ap (behind (long_at 12 l x.v) t s l) (sym w.ends) ∙ behind-is (long_at 12 l x.v) w.stack d.stack d.stack-follows (omega (arith, e)) in
-        rw (z, b)
+        rw b
 
     -- the arcs from `arc` on to the next open one do not leave v
     idle : (c : ℕ) → c ≡ next_open closed x.arc (run_start t (x.v + 1)) → (y : ℕ) → x.arc ≤ y → T (leaves (net_of nodes t closed) (end_of (arcs_of t) s w.stack) y) → (c ≤ y) × (y < run_start t (x.v + 1))
@@ -248,7 +249,7 @@ module _ (nodes : ℕ) (t closed : List ℕ) (s : ℕ) (l : List ℕ) (r : Ready
 
     -- back by arc a
     back_on : (c : ℕ) → c ≡ next_open closed x.arc (run_start t (x.v + 1)) → c ≡ run_start t (x.v + 1) → (p : List ℕ) (a : ℕ) → w.stack ≡ p ++ (a ∷ [])
-        → (y : OnWay nodes t closed s l (record { v = from_at t a; arc = a + 1; many = x.many; over = false })) × (y.stack ≡ p)
+        → (y : OnWay nodes t closed s l (record { v = from_at t a; arc = a + 1; many = x.many })) × (y.stack ≡ p)
     back_on c is e p a k =
         let d : Shortest nodes t closed s l (p ++ (a ∷ [])) = subst (λ q. Shortest nodes t closed s l q) k w.deep.stack in
         let f = last-from p a d in
@@ -301,7 +302,7 @@ module _ (nodes : ℕ) (t closed : List ℕ) (s : ℕ) (l : List ℕ) (r : Ready
           subst (λ q. dist_in forth nodes l q.to ≡ dist_in forth nodes l q.from + q.len) (sym (arc-is t c arc-below)) k
 
       -- past it
-      past-on : leads_on t l x.v c ≡ false → (y : OnWay nodes t closed s l (record { v = x.v; arc = c + 1; many = x.many; over = false })) × (y.stack ≡ w.stack)
+      past-on : leads_on t l x.v c ≡ false → (y : OnWay nodes t closed s l (record { v = x.v; arc = c + 1; many = x.many })) × (y.stack ≡ w.stack)
       past-on not_on =
           let g : suc c ≡ c + 1 = omega arith in (
             record {
@@ -337,35 +338,35 @@ falls_down u b a c e n h k = omega arith
 falls-so : (u b a c e n : ℕ) {after before v d : ℕ} → after ≡ u * (n + 2) + d + (n + 1 - e) → d ≡ b + (n - a) → before ≡ v * (n + 2) + b + (n + 1 - c) → v ≡ u + 1 → c ≤ a → a < n → after < before
 falls-so u b a c e n p q r g h k = rw (p, q, r, g) (falls_down u b a c e n h k)
 
-module _ (nodes : ℕ) (t closed : List ℕ) (s : ℕ) (l : List ℕ) (r : Ready nodes t closed s l) (x : At) (going : x.over ≡ false) (w : OnWay nodes t closed s l x)
+module _ (nodes : ℕ) (t closed : List ℕ) (s : ℕ) (l : List ℕ) (r : Ready nodes t closed s l) (x : At) (w : OnWay nodes t closed s l x)
     (c : ℕ) (is : c ≡ next_open closed x.arc (run_start t (x.v + 1))) where
   in-run : x.arc ≤ records t
   in-run = omega (arith, w.run-to, run-le t (x.v + 1))
 
-  pub up-on : c ≡ run_start t (x.v + 1) → Stood nodes t closed s l (up_from t s l x) × (left nodes t s l (up_from t s l x) < left nodes t s l x)
+  pub up-on : c ≡ run_start t (x.v + 1) → Stood nodes t closed s l (up_from t s l x) × (left nodes t s l (up_from t s l x) < left nodes t s l (Some x))
   up-on e = go (ℕ_discrete x.v s)
     where
-      go : Dec (x.v ≡ s) → Stood nodes t closed s l (up_from t s l x) × (left nodes t s l (up_from t s l x) < left nodes t s l x)
-      go (yes z) = subst (λ y. Stood nodes t closed s l y × (left nodes t s l y < left nodes t s l x)) (sym (up-over t s l x z))
-          (record { going = λ k. absurd (subst T k tt); ended = λ k. over-now nodes t closed s l r x w c is e z }, omega (arith, left_over nodes t s l x.v x.arc x.many, left_is nodes t closed s l r x w going, in-run))
+      go : Dec (x.v ≡ s) → Stood nodes t closed s l (up_from t s l x) × (left nodes t s l (up_from t s l x) < left nodes t s l (Some x))
+      go (yes z) = subst (λ y. Stood nodes t closed s l y × (left nodes t s l y < left nodes t s l (Some x))) (sym (up-over t s l x z))
+          (over-now nodes t closed s l r x w c is e z, omega (arith, left_over nodes t s l, left_is nodes t closed s l r x w, in-run))
       go (no ne) =
           let k = by_last nodes t closed s l r x w ne in
           let p = k.0 in
           let a = k.1 in
-          let y : At = record { v = from_at t a; arc = a + 1; many = x.many; over = false } in
+          let y : At = record { v = from_at t a; arc = a + 1; many = x.many } in
           let b : (z : OnWay nodes t closed s l y) × (z.stack ≡ p) = back_on nodes t closed s l r x w c is e p a k.2 in
-          subst (λ y. Stood nodes t closed s l y × (left nodes t s l y < left nodes t s l x)) (sym (up-back t s l x a ne (last-is nodes t closed s l r x w p a k.2))) (
-            record { going = λ z. b.0; ended = λ z. absurd (subst T (sym z) tt) },
-            omega (arith, left_is nodes t closed s l r y b.0 refl, ap (above t) b.1, left_is nodes t closed s l r x w going, ap (above t) k.2, above_more t p a, falls-back (unentered nodes l * (records t + 2)) (above t p) a x.arc (records t) in-run),
+          subst (λ y. Stood nodes t closed s l y × (left nodes t s l y < left nodes t s l (Some x))) (sym (up-back t s l x a ne (last-is nodes t closed s l r x w p a k.2))) (
+            b.0,
+            omega (arith, left_is nodes t closed s l r y b.0, ap (above t) b.1, left_is nodes t closed s l r x w, ap (above t) k.2, above_more t p a, falls-back (unentered nodes l * (records t + 2)) (above t p) a x.arc (records t) in-run),
           )
 
   pub past_by : c < run_start t (x.v + 1) → leads_on t l x.v c ≡ false
-      → Stood nodes t closed s l (record { v = x.v; arc = c + 1; many = x.many; over = false }) × (left nodes t s l (record { v = x.v; arc = c + 1; many = x.many; over = false }) < left nodes t s l x)
+      → Stood nodes t closed s l (Some (record { v = x.v; arc = c + 1; many = x.many })) × (left nodes t s l (Some (record { v = x.v; arc = c + 1; many = x.many })) < left nodes t s l (Some x))
   past_by inside h =
-      let y : At = record { v = x.v; arc = c + 1; many = x.many; over = false } in
+      let y : At = record { v = x.v; arc = c + 1; many = x.many } in
       let b : (z : OnWay nodes t closed s l y) × (z.stack ≡ w.stack) = past-on nodes t closed s l r x w c is inside h in (
-        record { going = λ z. b.0; ended = λ z. absurd (subst T (sym z) tt) },
-        omega (arith, left_is nodes t closed s l r y b.0 refl, ap (above t) b.1, left_is nodes t closed s l r x w going, arc-past nodes t closed s l r x w c is inside, arc-below nodes t closed s l r x w c is inside),
+        b.0,
+        omega (arith, left_is nodes t closed s l r y b.0, ap (above t) b.1, left_is nodes t closed s l r x w, arc-past nodes t closed s l r x w c is inside, arc-below nodes t closed s l r x w c is inside),
       )
 
   -- ---- down by arc c
@@ -413,7 +414,7 @@ module _ (nodes : ℕ) (t closed : List ℕ) (s : ℕ) (l : List ℕ) (r : Ready
     down-ready : Ready nodes t closed s (entered l (to_at t c) c x.many)
     down-ready = ready-same nodes t closed s l (entered l (to_at t c) c x.many) down-within r
 
-    down-way : (y : OnWay nodes t closed s (entered l (to_at t c) c x.many) (record { v = to_at t c; arc = run_start t (to_at t c); many = x.many + 1; over = false })) × (y.stack ≡ w.stack ++ (c ∷ []))
+    down-way : (y : OnWay nodes t closed s (entered l (to_at t c) c x.many) (record { v = to_at t c; arc = run_start t (to_at t c); many = x.many + 1 })) × (y.stack ≡ w.stack ++ (c ∷ []))
     down-way =
         let m = entered l (to_at t c) c x.many in
         let e = arc-to nodes t closed s l r x w c is inside in
@@ -433,15 +434,15 @@ module _ (nodes : ℕ) (t closed : List ℕ) (s : ℕ) (l : List ℕ) (r : Ready
           refl,
         )
 
-    pub down-on : Stood nodes t closed s (entered l (to_at t c) c x.many) (record { v = to_at t c; arc = run_start t (to_at t c); many = x.many + 1; over = false })
-        × (left nodes t s (entered l (to_at t c) c x.many) (record { v = to_at t c; arc = run_start t (to_at t c); many = x.many + 1; over = false }) < left nodes t s l x)
+    pub down-on : Stood nodes t closed s (entered l (to_at t c) c x.many) (Some (record { v = to_at t c; arc = run_start t (to_at t c); many = x.many + 1 }))
+        × (left nodes t s (entered l (to_at t c) c x.many) (Some (record { v = to_at t c; arc = run_start t (to_at t c); many = x.many + 1 })) < left nodes t s l (Some x))
     down-on =
         let m = entered l (to_at t c) c x.many in
-        let y : At = record { v = to_at t c; arc = run_start t (to_at t c); many = x.many + 1; over = false } in
+        let y : At = record { v = to_at t c; arc = run_start t (to_at t c); many = x.many + 1 } in
         let b = down-way in (
-          record { going = λ z. b.0; ended = λ z. absurd (subst T (sym z) tt) },
+          b.0,
           falls-so (unentered nodes m) (above t w.stack) c x.arc (run_start t (to_at t c)) (records t)
-              (left_is nodes t closed s m down-ready y b.0 refl) (ap (above t) b.1 ∙ above_more t w.stack c) (left_is nodes t closed s l r x w going) (sym fewer)
+              (left_is nodes t closed s m down-ready y b.0) (ap (above t) b.1 ∙ above_more t w.stack c) (left_is nodes t closed s l r x w) (sym fewer)
               (arc-past nodes t closed s l r x w c is inside) (arc-below nodes t closed s l r x w c is inside),
         )
 
@@ -458,7 +459,7 @@ module _ (nodes : ℕ) (t closed : List ℕ) (s : ℕ) (l : List ℕ) (r : Ready
   one-entered : unentered nodes l + 1 ≡ nodes
   one-entered = count-but-one (λ v. eqb (rank_in l v) none) nodes s r.s-below (ne_eqb (rank_in l s) none (λ z. omega (arith, zero-s, z))) (λ v h ne. eq-eqb (rank_in l v) none (others v h ne))
 
-  pub start-on : OnWay nodes t closed s l (record { v = s; arc = run_start t s; many = 1; over = false })
+  pub start-on : OnWay nodes t closed s l (record { v = s; arc = run_start t s; many = 1 })
   unfolding end_of
   start-on =
       record {

@@ -1,5 +1,5 @@
 -- The first routes from s to all nodes and from all nodes to t, in the working room.
-use Rattle.std.specs.Prelude.{◌≡◌, ◌≢◌, Bool, false, not, cond, List, [], ℕ, ◌<◌, ltb, eqb, length}
+use Rattle.std.specs.Prelude.{◌≢◌, Bool, false, not, cond, List, [], ℕ, ◌<◌, ltb, eqb, length}
 use Rattle.net.specs.Net.{Net}
 use Rattle.distances.specs.Deep.{Deep}
 use Rattle.distances.specs.Greedy.{Pick}

@@ -1,5 +1,5 @@
 -- The walk of the first routes from s: where it stands, what each function of it does, and a number that falls at each step.
-use Rattle.std.specs.Prelude.{◌≡◌, List, Bool, true, false, ◌&&◌, cond, ℕ, zero, suc, ◌+◌, ◌-◌, ◌*◌, ◌≤◌, ◌<◌, eqb}
+use Rattle.std.specs.Prelude.{◌≡◌, List, Option, Some, None, Bool, ◌&&◌, cond, ℕ, zero, suc, ◌+◌, ◌-◌, ◌*◌, ◌≤◌, ◌<◌, eqb}
 use Rattle.net.specs.Route.{end_of}
 use Rattle.table.specs.Table.{records, from_at, to_at, len_at, arcs_of, net_of}
 use Rattle.table.specs.Run.{run_start}
@@ -36,9 +36,9 @@ pub record OnWay (nodes : ℕ) (t closed : List ℕ) (s : ℕ) (l : List ℕ) (x
   pub run-to : x.arc ≤ run_start t (x.v + 1)
 
 -- It goes on, or is over.
-pub record Stood (nodes : ℕ) (t closed : List ℕ) (s : ℕ) (l : List ℕ) (x : At) : Type 0 where
-  pub going : x.over ≡ false → OnWay nodes t closed s l x
-  pub ended : x.over ≡ true → Ranked (net_of nodes t closed) s l
+abbrev pub Stood : ℕ → List ℕ → List ℕ → ℕ → List ℕ → Option At → Type 0
+Stood nodes t closed s l None = Ranked (net_of nodes t closed) s l
+Stood nodes t closed s l (Some x) = OnWay nodes t closed s l x
 
 -- The arcs above those that the walk went down by, from node v back to s by the last arcs, f of them at most.
 unfoldable pub behind : ℕ → List ℕ → ℕ → List ℕ → ℕ → ℕ
@@ -46,9 +46,10 @@ behind zero t s l v = 0
 behind (suc f) t s l v = cond (eqb v s) 0 (behind f t s l (from_at t (last_in forth l v)) + (records t - last_in forth l v))
 
 -- What is left to do: it falls at each step.
-unfoldable pub left : ℕ → List ℕ → ℕ → List ℕ → At → ℕ
+unfoldable pub left : ℕ → List ℕ → ℕ → List ℕ → Option At → ℕ
 unfolding count_to behind
-left nodes t s l x = cond x.over 0 (unentered nodes l * (records t + 2) + behind (long_at 12 l x.v) t s l x.v + (records t + 1 - x.arc))
+left nodes t s l None = 0
+left nodes t s l (Some x) = unentered nodes l * (records t + 2) + behind (long_at 12 l x.v) t s l x.v + (records t + 1 - x.arc)
 
 -- Arc a of node v lies on a shortest chain, and leads to a node not entered.
 unfoldable pub leads_on : List ℕ → List ℕ → ℕ → ℕ → Bool
@@ -59,7 +60,6 @@ abbrev pub entered : List ℕ → ℕ → ℕ → ℕ → List ℕ
 entered l w a m = put_word 24 (put_word 20 l w a) w m
 
 -- Back by the last arc; at s the walk is over.
-unfoldable pub up_from : List ℕ → ℕ → List ℕ → At → At
+unfoldable pub up_from : List ℕ → ℕ → List ℕ → At → Option At
 up_from t s l x =
-    cond (eqb x.v s) (record { v = x.v; arc = x.arc; many = x.many; over = true })
-    (record { v = from_at t (last_in forth l x.v); arc = last_in forth l x.v + 1; many = x.many; over = false })
+    cond (eqb x.v s) None (Some (record { v = from_at t (last_in forth l x.v); arc = last_in forth l x.v + 1; many = x.many }))

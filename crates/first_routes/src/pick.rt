@@ -39,15 +39,14 @@ fn lowest(table: &[u8], closed: &[u8], nodes: u32, goal: u32, room: &[u8], v: u3
         × (Pick (net_of nodes table.now closed.now)
         (dist_in back nodes room.now) v result) }
 {
+    let first = run_notes::start_of(table, nodes, room, v);
     let end = run_notes::end_of(table, nodes, room, v);
-    let mut arc = closures::next_arc(closed, run_notes::start_of(table, nodes, room, v), end);
-    while arc < end {
-        if nearer(table, nodes, room, v, arc) {
+    for arc in first..end {
+        if !closures::is_closed(closed, arc) && nearer(table, nodes, room, v, arc) {
             return arc;
         }
-        arc = closures::next_arc(closed, arc + 1, end);
     }
-    end
+    unreachable!()
 }
 
 // The first arc of node v, where the goal is reached from it.
@@ -77,9 +76,7 @@ pub fn all(table: &[u8], closed: &[u8], nodes: u32, goal: u32, room: &mut [u8])
         × (Picked (net_of nodes table.now closed.now) goal
         room.new) }
 {
-    let mut v = 0;
-    while v < nodes {
+    for v in 0..nodes {
         one(table, closed, nodes, goal, room, v);
-        v += 1;
     }
 }

@@ -1,6 +1,6 @@
 // The first routes from s: one walk, deeper first, at each node by the arcs on shortest routes from
 // the lowest number up, to nodes not yet entered. The order of entering is that of the routes.
-ghost use Rattle.std.specs.Prelude.{◌≡◌, ◌≢◌, false, ℕ, ◌+◌, ◌*◌, ◌≤◌, ◌<◌, length};
+ghost use Rattle.std.specs.Prelude.{◌≡◌, ◌≢◌, ℕ, Some, ◌+◌, ◌*◌, ◌≤◌, ◌<◌, length};
 ghost use Rattle.table.specs.Table.{records, to_at, net_of};
 ghost use Rattle.table.specs.Fault.{table_fault, good};
 ghost use Rattle.table.specs.Run.{run_start};
@@ -17,12 +17,11 @@ ghost use Rattle.first_routes.specs.Walking.{leads_on, entered, up_from};
 use crate::{FORTH, LAST, NONE, RANK};
 
 // Where the walk stands: at node v, its arcs below `arc` tried, `many` nodes entered.
-#[derive(Drop)]
+#[derive(Clone, Copy)]
 pub struct At {
     pub v: u32,
     pub arc: usize,
     pub many: u32,
-    pub over: bool,
 }
 
 // No node is entered.
@@ -31,10 +30,8 @@ fn unset(nodes: u32, room: &mut [u8])
     ensures { (Within 24 4 room.old room.new)
         × ((v : ℕ) → v < nodes → rank_in room.new v ≡ none) }
 {
-    let mut v = 0;
-    while v < nodes {
+    for v in 0..nodes {
         working_room::put_word(room, RANK, v as usize, NONE);
-        v += 1;
     }
 }
 
@@ -73,7 +70,6 @@ fn down(table: &[u8], nodes: u32, room: &mut [u8], arc: usize, many: u32) -> At
           v = to_at table.now arc;
           arc = run_start table.now (to_at table.now arc);
           many = many + 1;
-          over = false;
         }) }
 {
     let w = table::arc::to_of(table, arc);
@@ -83,42 +79,35 @@ fn down(table: &[u8], nodes: u32, room: &mut [u8], arc: usize, many: u32) -> At
         v: w,
         arc: first,
         many: many + 1,
-        over: false,
     }
 }
 
 // Back by the last arc, where none is left to try; at s the walk is over.
-fn up(table: &[u8], s: u32, room: &[u8], at: At) -> At
+fn up(table: &[u8], s: u32, room: &[u8], at: At) -> Option<At>
     requires { (at.v * room_bytes + room_bytes ≤ length room.now)
         × (at.v ≢ s → last_in forth room.now at.v < records table.now) }
     ensures { result ≡ up_from table.now s room.now at }
 {
     let v = at.v;
     if v == s {
-        return At {
-            v: v,
-            arc: at.arc,
-            many: at.many,
-            over: true,
-        };
+        return None;
     }
     let last = working_room::word(room, LAST, v as usize) as usize;
-    At {
+    Some(At {
         v: table::arc::from_of(table, last),
         arc: last + 1,
         many: at.many,
-        over: false,
-    }
+    })
 }
 
-// One step: back, past an arc, or down by it.
-fn step(table: &[u8], closed: &[u8], nodes: u32, s: u32, room: &mut [u8], at: At) -> At
-    requires { (Ready nodes table.now closed.now s room.old) × (at.over ≡ false)
+// One step: back, past an arc, or down by it. Nothing where the walk is over.
+fn step(table: &[u8], closed: &[u8], nodes: u32, s: u32, room: &mut [u8], at: At) -> Option<At>
+    requires { (Ready nodes table.now closed.now s room.old)
         × (OnWay nodes table.now closed.now s room.old at) }
     ensures { (Within 20 8 room.old room.new)
         × (Stood nodes table.now closed.now s room.new result)
         × (left nodes table.now s room.new result
-        < left nodes table.now s room.old at) }
+        < left nodes table.now s room.old (Some at)) }
 {
     let v = at.v;
     let many = at.many;
@@ -128,14 +117,13 @@ fn step(table: &[u8], closed: &[u8], nodes: u32, s: u32, room: &mut [u8], at: At
         return up(table, s, room, at);
     }
     if !leads(table, nodes, room, v, arc) {
-        return At {
-            v: v,
+        return Some(At {
+            v,
             arc: arc + 1,
-            many: many,
-            over: false,
-        };
+            many,
+        });
     }
-    down(table, nodes, room, arc, many)
+    Some(down(table, nodes, room, arc, many))
 }
 
 // The last arc and the rank of each node that is reached from s, by the distances from it.
@@ -149,13 +137,12 @@ pub fn all(table: &[u8], closed: &[u8], nodes: u32, s: u32, room: &mut [u8])
 {
     unset(nodes, room);
     working_room::put_word(room, RANK, s as usize, 0);
-    let mut at = At {
+    let mut next = Some(At {
         v: s,
         arc: run_notes::start_of(table, nodes, room, s),
         many: 1,
-        over: false,
-    };
-    while !at.over {
-        at = step(table, closed, nodes, s, room, at);
+    });
+    while let Some(at) = next {
+        next = step(table, closed, nodes, s, room, at);
     }
 }

@@ -38,9 +38,6 @@ module _ (x : List ℕ) (a d : ℕ) (h : d ≤ length x) where
   rest-length = length-drop (suc d) (x ++ (a ∷ [])) ∙ omega (arith, length-append x (a ∷ []))
 
 module _ (x y : List ℕ) (d : ℕ) (u v : List ℕ) (hx : d ≤ length x) (hy : d ≤ length y) (eu : u ≡ take d x) (ev : v ≡ take d y) where
-  pub cut-lengths : length u ≡ length v
-  cut-lengths = ap length eu ∙ length-take-le d x hx ∙ sym (length-take-le d y hy) ∙ ap length (sym ev)
-
   -- the chains have k and m arcs, p and q are the arcs after the cut, and r what is decided behind it
   pub cut-together : (a c k m p q : ℕ) (r : Bool) → (d ≡ length x) ⊎ (d ≡ length y) → k ≡ length x → m ≡ length y
       → p ≡ get_or (x ++ (a ∷ [])) d 0 → q ≡ get_or (y ++ (c ∷ [])) d 0 → r ≡ lex p q (ltb k m)

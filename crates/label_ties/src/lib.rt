@@ -29,25 +29,11 @@ struct Left {
 }
 
 // Of two numbers that differ the lower comes first; equal ones leave it to what comes after them.
+#[tactic(auto, using(std::proofs::lemmas::Bool::Decides::nat_tests), unfolding(lists::specs::Tests::lex))]
 fn decide(p: u32, q: u32, after: bool) -> bool
     ensures { result ≡ lex p q after }
 {
-    if p < q {
-        return true;
-    }
-    if q < p {
-        return false;
-    }
-    after
-}
-
-fn lower(x: u16, y: u16) -> u16
-    ensures { (result ≤ x) × (result ≤ y) × ((result ≡ x) ⊎ (result ≡ y)) }
-{
-    if x < y {
-        return x;
-    }
-    y
+    p < q || p == q && after
 }
 
 // Of a chain and one arc more: the label of its first d arcs, and the arc after those.
@@ -114,7 +100,7 @@ pub fn numbers_first(labels: &[u8], n: usize, i: usize, a: u32, j: usize, c: u32
 {
     let k = field::depth(labels, i);
     let m = field::depth(labels, j);
-    let d = lower(k, m);
+    let d = k.min(m);
     let x = climb(labels, n, i, a, d);
     let y = climb(labels, n, j, c, d);
     together(labels, n, x.label, y.label, decide(x.arc, y.arc, k < m))

@@ -26,7 +26,7 @@ pub fn write(labels: &[u8], n: usize, label: usize, slot: &mut [u32])
     ensures { slot.new
         ≡ slot_of (length slot.old) (chain_at labels.now label) }
 {
-    words::fill::fill32(slot, field::NONE);
+    words::fill::fill(slot, field::NONE);
     let mut k = arcs(labels, n, label);
     let mut j = label;
     while j != 0 {

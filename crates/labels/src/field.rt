@@ -143,9 +143,7 @@ pub fn put_overlaps(labels: &mut [u8], label: usize, overlaps: &[u64])
     ensures { labels.new ≡ puts labels.old
         (label * label_bytes + head_bytes) overlaps.now }
 {
-    let mut r = 0;
-    while r < overlaps.len() {
-        words::number::write64(labels, label * LABEL + (HEAD + 8 * r), overlaps[r]);
-        r += 1;
+    for (r, &overlap) in overlaps.iter().enumerate() {
+        words::number::write64(labels, label * LABEL + (HEAD + 8 * r), overlap);
     }
 }

@@ -4,3 +4,4 @@ pub mod MemberLaws
 pub mod IndexLaws
 pub mod LoopLaws
 pub mod RangeLaws
+pub mod StdLaws

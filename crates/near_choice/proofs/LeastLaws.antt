@@ -2,10 +2,10 @@
 -- (`lowest-same`). Both are above exactly the same fractions. And fractions that tell how varied choices are compare as the definition compares the choices.
 use mathlib.Core.Path.{◌≡◌, refl, sym, subst}
 use mathlib.Core.Logic.{⊎_elim}
-use mathlib.Core.Option.{none, some}
+use Rattle.std.specs.Prelude.{None, Some}
 use mathlib.Core.List.Memᴰ
 use mathlib.Core.List.{List, [], ◌∷◌, ◌++◌, map, Memᴰ}
-use mathlib.Core.Bool.{Bool, true, false, cond}
+use mathlib.Core.Bool.{Bool, true, false}
 use Prim.Native.Nat.{ℕ, ◌<◌}
 use lib.Dec.{T}
 use lib.ListN.{get_or}
@@ -13,13 +13,13 @@ use Rattle.net.specs.Net.{Arc}
 use Rattle.net.specs.Route.{length_of}
 use Rattle.table.specs.Table.{arcs_of}
 use Rattle.search_ask.specs.Earlier.{earlier_in}
-use Rattle.variety.specs.declared.Fraction.{Fraction}
+use Rattle.products.specs.declared.Fraction.{Fraction}
 use Rattle.variety.specs.Choice.{hope}
 use Rattle.variety.specs.Variety.{less, apart, pairwise, lower, least, variety, varied, no_route}
 use Rattle.variety.proofs.Fractions.{Proper, AllProper, lower-e, lower-i, lower-proper, least-proper, least-e, least-i, union-positive, named, proper}
 use Rattle.variety.proofs.Steps.{Same, same_by, less-same, variety-more}
 use Rattle.variety.proofs.Best.{variety-proper}
-use Rattle.near_choice.specs.declared.Best.{Best}
+use Rattle.near_choice.specs.Best.{Best}
 use Rattle.near_choice.specs.Choosing.{Tells, best_in, Stands, hope_by, lowest}
 
 both_ways : (a b : Bool) → (T a → T b) → (T b → T a) → a ≡ b
@@ -63,7 +63,7 @@ module _ (arcs : List Arc) (rs : List (List ℕ)) (long : (i : ℕ) → 0 < leng
       subst Proper w.2 (union-positive arcs (get_or rs w.0 no_route) (get_or rs r no_route) (long w.0))
 
   -- no choice is more varied than one
-  below_one : (b : Fraction) (ranks : List ℕ) → Proper b → T (less b (variety arcs rs ranks)) → T (less b (record { top = 1; bottom = 1 }))
+  below_one : (b : Fraction) (ranks : List ℕ) → Proper b → T (less b (variety arcs rs ranks)) → T (less b (record { over = 1; under = 1 }))
   unfolding variety named
   below_one b ranks pb h = (least-e b (pairwise arcs (named arcs rs long ranks)) pb (proper arcs rs long ranks) h).0
 
@@ -101,8 +101,5 @@ module _ (t : List ℕ) (w n : ℕ) (list : List ℕ) (long : (i : ℕ) → 0 < 
   -- so there is hope by the fractions where there is by the definition
   pub hope-tells : (b : Best) (best ranks : List ℕ) (x : Fraction) → Stands t w n list b best → Tells t w n list ranks x → hope_by b x ≡ hope (varied (arcs_of t) (earlier_in w n list)) (best_in b best) ranks
   unfolding hope_by hope
-  hope-tells b best ranks x s k = go b.found refl
-    where
-      go : (f : Bool) → b.found ≡ f → cond f (less b.least x) true ≡ hope (varied (arcs_of t) (earlier_in w n list)) (cond f (some best) none) ranks
-      go true e = less-tells best ranks b.least x (s e) k
-      go false e = refl
+  hope-tells None best ranks x s k = refl
+  hope-tells (Some y) best ranks x s k = less-tells best ranks y x s k

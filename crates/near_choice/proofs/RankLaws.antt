@@ -1,5 +1,5 @@
 -- The rank's route is marked, so what the code finds of each other route is their dissimilarity (`aparts-same`); the lowest of these and the fraction so far tells how
--- varied the ranks are with one more (`rank-tells`). All are small enough to be compared.
+-- varied the ranks are with one more (`rank-tells`). Both parts of each have at most 40 bits (`apart-few`).
 use mathlib.Core.Path.{◌≡◌, refl, sym, ap, ap₂, subst, ◌∙◌}
 use mathlib.Core.List.{List, [], ◌∷◌, ◌++◌}
 use mathlib.Core.Bool.{true, false}
@@ -21,7 +21,7 @@ use Rattle.route_list.proofs.PlaceLaws.{length-slot}
 use Rattle.route_apart.specs.Marks.{Marked, Unmarked, put_marks, apart_by}
 use Rattle.route_apart.proofs.PutLaws.{put_marks-long, marked_by, unmarked-by}
 use Rattle.route_apart.proofs.ApartLaws.{route-most, members-below, apart_by_lem, marked-most}
-use Rattle.variety.specs.declared.Fraction.{Fraction}
+use Rattle.products.specs.declared.Fraction.{Fraction}
 use Rattle.variety.specs.Variety.{less, apart, lower, variety, no_route}
 use Rattle.variety.proofs.Steps.{Same}
 use Rattle.variety.proofs.Fractions.{Proper}
@@ -119,8 +119,8 @@ module _ (t : List ℕ) (nodes w n : ℕ) (list : List ℕ) (g : Routes t nodes 
         record {
           same = subst (λ y. Same y (variety (arcs_of t) (earlier_in w n list) (ranks ++ (r ∷ [])))) (sym z) (lowest-same (arcs_of t) (earlier_in w n list) g.long ranks r least s.proper s.same);
           proper = subst Proper (sym z) (lowest-proper least (aparts_of (arcs_of t) (earlier_in w n list) g.long ranks r) s.proper (aparts-proper (arcs_of t) (earlier_in w n list) g.long ranks r));
-          top-few = f.0;
-          bottom-few = f.1;
+          over-few = f.0;
+          under-few = f.1;
         }
 
     -- as the code has it: the slot lent, its route's length, and the room with its marks

@@ -3,6 +3,7 @@
 use mathlib.Core.Path.{◌≡◌, refl, sym, ap, subst, ◌∙◌}
 use mathlib.Core.Logic.{◌≢◌, ◌⊎◌, inl, inr}
 use mathlib.Core.Option.{Option, none, some}
+use Rattle.std.specs.Prelude.{None, Some}
 use mathlib.Core.List.{List, [], ◌∷◌, ◌++◌}
 use mathlib.Core.Bool.{Bool, true, false, cond}
 use Prim.Native.Nat.{ℕ, suc, ◌+◌, ◌-◌, ◌≤◌, ◌<◌}
@@ -10,20 +11,20 @@ use native.Mathlib.Omega.{arith}
 use native.Mathlib.Nat.{sub-zero}
 use native.Mathlib.Numerals.{add-one}
 use lib.ListN.{length, get_or, set, take, length-append, length-set, get_or-append}
-use lib.Seq.{take-suc, take-suc-set, take-set-le, take-take, take_all, get_or-append_seam}
+use lib.Seq.{take-suc-set, take-set-le, take-take, take_all, get_or-append_seam}
 use Rattle.lists.specs.Tests.{up_from}
 use Rattle.lists.proofs.Cases.{order}
 use Rattle.table.specs.Table.{arcs_of}
 use Rattle.search_ask.specs.Earlier.{earlier_in}
 use Rattle.search_ask.proofs.EarlierLaws.{length-earlier_in}
 use Rattle.route_apart.specs.Marks.{Unmarked}
-use Rattle.variety.specs.declared.Fraction.{Fraction}
+use Rattle.products.specs.declared.Fraction.{Fraction}
 use Rattle.variety.specs.Choice.{hope, better, search_from}
 use Rattle.variety.specs.Variety.{varied, variety, pairwise, least, chosen}
 use Rattle.variety.proofs.Fractions.{chosen-search}
 use Rattle.variety.proofs.Best.{chosen-best}
-use Rattle.near_choice.specs.declared.Best.{Best}
-use Rattle.near_choice.specs.Choosing.{Routes, Blank, Few, Tells, best_in, Stands, hope_by, Weighed, Below, sought_from, Seeks, Sought, Turning}
+use Rattle.near_choice.specs.Best.{Best}
+use Rattle.near_choice.specs.Choosing.{Routes, Blank, Tells, best_in, Stands, hope_by, Weighed, Below, sought_from, Seeks, Sought, Turning}
 use Rattle.near_choice.proofs.LeastLaws.{hope-tells}
 
 -- ---- the search, a rank at a time
@@ -73,15 +74,6 @@ below_more n ranks i b h j k = go (order (length ranks) j)
 pub taken-set : (l : List ℕ) (j x : ℕ) → j < length l → take (j + 1) (set l j x) ≡ take j l ++ (x ∷ [])
 taken-set l j x h = rw (add-one j) (take-suc-set l j x h)
 
--- one number more is copied
-pub copy_step : (from to : List ℕ) (j : ℕ) → j < length from → length from ≡ length to → take j to ≡ take j from → take (j + 1) (set to j (get_or from j 0)) ≡ take (j + 1) from
-copy_step from to j h e k =
-    let g : j < length to = omega arith in
-    taken-set to j (get_or from j 0) g ∙ ap (λ l. l ++ (get_or from j 0 ∷ [])) k ∙ sym (rw (add-one j) (take-suc from j 0 h))
-
-pub copy_done : (from to : List ℕ) (j : ℕ) → length from ≤ j → length from ≡ length to → take j to ≡ take j from → to ≡ from
-copy_done from to j h e k = sym (take_all j to (omega arith)) ∙ k ∙ take_all j from h
-
 -- ---- the search from `depth` ranks
 
 module _ (t : List ℕ) (nodes w n : ℕ) (list room ranks best : List ℕ) (depth from : ℕ) (least : Fraction) (b : Best) (s : Seeks t nodes w n list room ranks best depth from least b) where
@@ -90,9 +82,6 @@ module _ (t : List ℕ) (nodes w n : ℕ) (list room ranks best : List ℕ) (dep
 
   abbrev picked : List ℕ
   picked = take depth ranks
-
-  pub weigh-asks : (length ranks ≡ length best) × (b.found ≡ true → Few b.least) × Few least
-  weigh-asks = (s.same-long, λ e. ((s.stands e).top-few, (s.stands e).bottom-few), (s.tells.top-few, s.tells.bottom-few))
 
   -- what was sought, where nothing is left to choose
   sought-whole : depth ≡ length ranks → sought_from t w n list from (length ranks - depth) (take depth ranks) (best_in b best) ≡ cond (hope_by b least) (some ranks) (best_in b best)
@@ -114,7 +103,7 @@ module _ (t : List ℕ) (nodes w n : ℕ) (list room ranks best : List ℕ) (dep
         ranks-kept = refl;
         best-long = ap length h.1 ∙ s.same-long;
         is = ap (λ z. best_in z best') h.2 ∙ ap some h.1 ∙ sym (sought-whole e ∙ ap (λ f. cond f (some ranks) (best_in b best)) h.0);
-        stands = λ f. subst (λ z. Tells t w n list best' z.least) (sym h.2) (subst (λ l. Tells t w n list l least) (take_all depth ranks (omega arith) ∙ sym h.1) s.tells);
+        stands = subst (λ z. Stands t w n list z best') (sym h.2) (subst (λ l. Tells t w n list l least) (take_all depth ranks (omega arith) ∙ sym h.1) s.tells);
       }
   weighed e best' r (inr h) =
       record {
@@ -164,9 +153,6 @@ module _ (t : List ℕ) (nodes w n : ℕ) (list room ranks best : List ℕ) (dep
       place_in = omega (arith, s.deep, deep, g.ranks-long)
 
       module _ (x : Fraction) (room₂ : List ℕ) (tells : Tells t w n list (take (depth - 0) ranks' ++ (i ∷ [])) x) (long₂ : length room₂ ≡ length room') (clean : Unmarked room₂) where
-        pub hope-asks : (r.found ≡ true → Few r.least) × Few x
-        hope-asks = (λ e. ((g.stands e).top-few, (g.stands e).bottom-few), (tells.top-few, tells.bottom-few))
-
         tells-picked : Tells t w n list (take depth ranks ++ (i ∷ [])) x
         tells-picked = subst (λ l. Tells t w n list (l ++ (i ∷ [])) x) first-is tells
 
@@ -242,10 +228,10 @@ taken none = 0
 taken (some l) = 1
 
 abbrev pub one : Fraction
-one = record { top = 1; bottom = 1 }
+one = record { over = 1; under = 1 }
 
 abbrev pub nothing : Best
-nothing = record { found = false; least = one }
+nothing = None
 
 module _ (t : List ℕ) (nodes w n : ℕ) (list room ranks best : List ℕ) (routes : Routes t nodes w n list) (blank : Blank nodes room) (same-long : length ranks ≡ length best) where
   pub seek-asks : Seeks t nodes w n list room ranks best 0 0 one nothing
@@ -258,18 +244,15 @@ module _ (t : List ℕ) (nodes w n : ℕ) (list room ranks best : List ℕ) (rou
         deep = omega arith;
         up_to = omega arith;
         below = λ j h. absurd (omega arith);
-        tells = record { same = refl; proper = omega arith; top-few = omega arith; bottom-few = omega arith };
-        stands = λ e. absurd (no e);
+        tells = record { same = refl; proper = omega arith; over-few = omega arith; under-few = omega arith };
+        stands = tt;
       }
-    where
-      no : false ≡ true → ⊥
-      no e = let z : ◌≡◌ {A = ℕ} 0 1 = ap (λ f. cond f 1 0) e in omega arith
 
   -- k of at least k routes: there is a choice
   pub all-chosen : length best ≤ n → (room' ranks' best' : List ℕ) (r : Best) → Sought t nodes w n list room ranks best 0 0 nothing room' ranks' best' r
       → some best' ≡ chosen (arcs_of t) (earlier_in w n list) (length best)
   unfolding taken
-  all-chosen few room' ranks' best' r v = go r.found refl
+  all-chosen few room' ranks' best' r v = go r arcs-is
     where
       arcs-is : best_in r best' ≡ chosen (arcs_of t) (earlier_in w n list) (length best)
       arcs-is =
@@ -280,11 +263,11 @@ module _ (t : List ℕ) (nodes w n : ℕ) (list room ranks best : List ℕ) (rou
           ∙ ap (λ m. search_from (varied (arcs_of t) (earlier_in w n list)) (up_from 0 m) (length best) [] none) f
           ∙ chosen-search (arcs_of t) (earlier_in w n list) routes.long (length best)
 
-      go : (f : Bool) → r.found ≡ f → some best' ≡ chosen (arcs_of t) (earlier_in w n list) (length best)
-      go true e = ap (λ f. cond f (some best') none) (sym e) ∙ arcs-is
-      go false e =
+      go : (b : Best) → best_in b best' ≡ chosen (arcs_of t) (earlier_in w n list) (length best) → some best' ≡ chosen (arcs_of t) (earlier_in w n list) (length best)
+      go (Some x) e = e
+      go None e =
           let w = chosen-best (arcs_of t) (earlier_in w n list) routes.long (length best) (omega (arith, length-earlier_in w n list)) in
-          let k : ◌≡◌ {A = Option (List ℕ)} none (some w.0) = ap (λ f. cond f (some best') none) (sym e) ∙ arcs-is ∙ w.1 in
+          let k : ◌≡◌ {A = Option (List ℕ)} none (some w.0) = e ∙ w.1 in
           absurd (never w.0 k)
         where
           never : (l : List ℕ) → ◌≡◌ {A = Option (List ℕ)} none (some l) → ⊥

@@ -1,6 +1,6 @@
 -- The choice in the buffers: the ranks chosen so far, the best choice so far, and how varied each is, as a fraction that is equal to the definition's though not the
 -- same numbers.
-use Rattle.std.specs.Prelude.{◌≡◌, ◌⊎◌, List, [], ◌∷◌, map, Bool, true, false, cond, ℕ, ◌-◌, ◌≤◌, ◌<◌, T, length, get_or, take}
+use Rattle.std.specs.Prelude.{◌≡◌, ◌⊎◌, None, Some, IfSome, List, [], ◌∷◌, map, Bool, true, false, ℕ, ◌-◌, ◌≤◌, ◌<◌, T, length, get_or, take}
 use Rattle.std.proofs.Math.Option.{Option, none, some}
 use Rattle.lists.specs.Tests.{distinct, up_from}
 use Rattle.words.specs.Part.{slot}
@@ -13,12 +13,12 @@ use Rattle.products.specs.Product.{most_factor}
 use Rattle.remaining.specs.Standing.{Roomy}
 use Rattle.route_list.specs.Listed.{Listed}
 use Rattle.route_apart.specs.Marks.{StartsApart, Unmarked, marked_of, apart_by}
-use Rattle.variety.specs.declared.Fraction.{Fraction}
+use Rattle.products.specs.declared.Fraction.{Fraction}
 use Rattle.variety.specs.Choice.{search_from}
 use Rattle.variety.specs.Variety.{no_route, less, lower, variety, varied}
 use Rattle.variety.proofs.Steps.{Same}
 use Rattle.variety.proofs.Fractions.{Proper}
-use Rattle.near_choice.specs.declared.Best.{Best}
+use Rattle.near_choice.specs.Best.{Best}
 
 -- n simple routes stand in the list's slots of w words: none leaves a node twice.
 pub record Routes (t : List ℕ) (nodes w n : ℕ) (list : List ℕ) : Type 0 where
@@ -34,33 +34,35 @@ pub record Blank (nodes : ℕ) (room : List ℕ) : Type 0 where
   pub roomy : Roomy nodes room
   pub unmarked : Unmarked room
 
--- Small enough to be compared.
+-- Both parts have at most 40 bits.
 abbrev pub Few : Fraction → Type 0
-Few x = (x.top < most_factor) × (x.bottom < most_factor)
+Few x = (x.over < most_factor) × (x.under < most_factor)
 
 -- The fraction tells how varied the ranks are.
 pub record Tells (t : List ℕ) (w n : ℕ) (list ranks : List ℕ) (x : Fraction) : Type 0 where
   pub same : Same x (variety (arcs_of t) (earlier_in w n list) ranks)
   pub proper : Proper x
-  pub top-few : x.top < most_factor
-  pub bottom-few : x.bottom < most_factor
+  pub over-few : x.over < most_factor
+  pub under-few : x.under < most_factor
 
 -- The best choice so far: its ranks stand in `best`.
 abbrev pub best_in : Best → List ℕ → Option (List ℕ)
-best_in b best = cond b.found (some best) none
+best_in None best = none
+best_in (Some x) best = some best
 
 abbrev pub Stands : List ℕ → ℕ → ℕ → List ℕ → Best → List ℕ → Type 0
-Stands t w n list b best = b.found ≡ true → Tells t w n list best b.least
+Stands t w n list b best = IfSome b (Tells t w n list best)
 
 -- A choice as varied as x is better than the best so far.
 unfoldable pub hope_by : Best → Fraction → Bool
 unfolding less
-hope_by b x = cond b.found (less b.least x) true
+hope_by None x = true
+hope_by (Some y) x = less y x
 
 -- What a whole choice leaves in `best`: itself where it is better, and else what was there.
 abbrev pub Weighed : List ℕ → List ℕ → Fraction → Best → List ℕ → Best → Type 0
 Weighed ranks best x b best' r =
-    ((hope_by b x ≡ true) × (best' ≡ ranks) × (r ≡ record { found = true; least = x })) ⊎ ((hope_by b x ≡ false) × (best' ≡ best) × (r ≡ b))
+    ((hope_by b x ≡ true) × (best' ≡ ranks) × (r ≡ Some x)) ⊎ ((hope_by b x ≡ false) × (best' ≡ best) × (r ≡ b))
 
 -- The ranks are of the n listed.
 abbrev pub Below : ℕ → List ℕ → Type 0

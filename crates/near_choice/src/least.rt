@@ -2,32 +2,20 @@
 ghost use Rattle.std.specs.Prelude.{◌≡◌, [], ◌∷◌, ◌++◌, ◌*◌, ◌≤◌, ◌<◌, length};
 ghost use Rattle.net.specs.Limits.{most_nodes, most_length};
 ghost use Rattle.products.specs.Product.{most_factor};
-ghost use Rattle.variety.specs.Variety.{less, lower};
+ghost use Rattle.variety.specs.Variety.{lower};
 ghost use Rattle.remaining.specs.Standing.{Roomy};
 ghost use Rattle.route_apart.specs.Marks.{Unmarked};
 ghost use Rattle.near_choice.specs.Choosing.{Routes, Blank, Few, Tells, Below};
 ghost use Rattle.near_choice.specs.Choosing.{Shares, lowest, aparts_by};
 
-use variety::Fraction;
-
-// Whether x is less than y.
-pub fn less(x: Fraction, y: Fraction) -> bool
-    requires { (x.top < most_factor) × (x.bottom < most_factor)
-        × (y.top < most_factor) × (y.bottom < most_factor) }
-    ensures { result ≡ less x y }
-{
-    products::less(x.top, y.bottom, y.top, x.bottom)
-}
+use products::Fraction;
 
 // The lower of the two, x where they are equal.
 fn lower(x: Fraction, y: Fraction) -> Fraction
     requires { (Few x) × (Few y) }
     ensures { (result ≡ lower x y) × (Few result) }
 {
-    if less(y, x) {
-        return y;
-    }
-    x
+    if y.is_less(x) { y } else { x }
 }
 
 // The least of a fraction and the dissimilarities of the ranks' routes and the marked one, of this
@@ -44,21 +32,18 @@ fn lowest(
     size: u64,
 ) -> Fraction
     requires { (Routes table.now nodes w n list.now) × (Roomy nodes room.now)
-        × (Below n ranks.now) × (least.top < most_factor) × (least.bottom < most_factor)
+        × (Below n ranks.now) × (least.over < most_factor) × (least.under < most_factor)
         × (Shares table.now w list.now room.now size ranks.now)
         × (size ≤ most_nodes * most_length) }
     ensures { (result ≡ lowest least (aparts_by table.now w list.now
         room.now size ranks.now))
-        × (result.top < most_factor) × (result.bottom < most_factor) }
+        × (result.over < most_factor) × (result.under < most_factor) }
 {
     let mut x = least;
-    let mut j = 0;
-    while j < ranks.len() {
-        let i = ranks[j];
+    for &i in ranks {
         let one = route_list::slot(list, w, i);
         let y = route_apart::apart(table, nodes, one, room, size);
         x = lower(x, y);
-        j += 1;
     }
     x
 }

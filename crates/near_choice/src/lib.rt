@@ -4,63 +4,47 @@
 
 pub mod least;
 
-ghost use Rattle.std.specs.Prelude.{◌≡◌, true, ◌≤◌, length};
+ghost use Rattle.std.specs.Prelude.{◌≡◌, ◌≤◌, length};
 ghost use Rattle.std.proofs.Math.Option.{some};
 ghost use Rattle.table.specs.Table.{arcs_of};
 ghost use Rattle.search_ask.specs.Earlier.{earlier_in};
 ghost use Rattle.variety.specs.Variety.{chosen};
-ghost use Rattle.near_choice.specs.Choosing.{Routes, Blank, Few, hope_by, Weighed};
+ghost use Rattle.near_choice.specs.Choosing.{Routes, Blank, hope_by, Weighed};
 ghost use Rattle.near_choice.specs.Choosing.{Seeks, Sought};
 
-use variety::Fraction;
+use products::Fraction;
 
-// The best choice so far, whose ranks stand in a buffer: whether there is one, and how varied.
-#[derive(Clone, Copy)]
-pub struct Best {
-    pub found: bool,
-    pub least: Fraction,
-}
-
-// Whether a choice as varied as this is better than the best so far.
-fn hope(best: Best, x: Fraction) -> bool
-    requires { (best.found ≡ true → Few best.least) × (Few x) }
+// Whether a choice as varied as x is better than the best so far, if there is one.
+fn hope(best: Option<Fraction>, x: Fraction) -> bool
     ensures { result ≡ hope_by best x }
 {
-    if best.found {
-        let y = best.least;
-        return least::less(y, x);
-    }
-    true
-}
-
-// The numbers of one slice written over those of another as long.
-fn copy(from: &[usize], to: &mut [usize])
-    requires { length from.now ≡ length to.old }
-    ensures { to.new ≡ from.now }
-{
-    let mut j = 0;
-    while j < from.len() {
-        to[j] = from[j];
-        j += 1;
+    match best {
+        Some(y) => y.is_less(x),
+        None => true,
     }
 }
 
 // A whole choice, as varied as `least` tells, becomes the best if it is better than that so far.
-fn whole(ranks: &[usize], best: &mut [usize], least: Fraction, known: Best) -> Best
-    requires { (length ranks.now ≡ length best.old)
-        × (known.found ≡ true → Few known.least) × (Few least) }
+fn whole(
+    ranks: &[usize],
+    best: &mut [usize],
+    least: Fraction,
+    known: Option<Fraction>,
+) -> Option<Fraction>
+    requires { length ranks.now ≡ length best.old }
     ensures { Weighed ranks.now best.old least known
         best.new result }
 {
     if hope(known, least) {
-        copy(ranks, best);
-        return Best { found: true, least };
+        best.copy_from_slice(ranks);
+        return Some(least);
     }
     known
 }
 
 // Seeks the best choice that begins with the first `depth` ranks and goes on with ranks from `from`
-// on; `least` tells how varied the beginning is.
+// on; `least` tells how varied the beginning is, and `known` the best choice so far, whose ranks stand
+// in `best`.
 fn seek(
     table: &[u8],
     nodes: u32,
@@ -73,8 +57,8 @@ fn seek(
     depth: usize,
     from: usize,
     least: Fraction,
-    known: Best,
-) -> Best
+    known: Option<Fraction>,
+) -> Option<Fraction>
     requires { Seeks table.now nodes w n list.now room.old ranks.old best.old
         depth from least known }
     ensures { Sought table.now nodes w n list.now room.old
@@ -85,8 +69,7 @@ fn seek(
         return whole(ranks, best, least, known);
     }
     let mut found = known;
-    let mut i = from;
-    while i < n {
+    for i in from..n {
         let x = least::with_rank(table, nodes, list, w, n, room, &ranks[0..depth], least, i);
         if hope(found, x) {
             ranks[depth] = i;
@@ -104,10 +87,7 @@ fn seek(
                 x,
                 found,
             );
-            i += 1;
-            continue;
         }
-        i += 1;
     }
     found
 }
@@ -130,10 +110,6 @@ pub fn choose(
         (earlier_in w n list.now) (length best.old))
         × (length room.new ≡ length room.old) }
 {
-    let one = Fraction { top: 1, bottom: 1 };
-    let none = Best {
-        found: false,
-        least: one,
-    };
-    seek(table, nodes, list, w, n, room, ranks, best, 0, 0, one, none);
+    let one = Fraction { over: 1, under: 1 };
+    seek(table, nodes, list, w, n, room, ranks, best, 0, 0, one, None);
 }

@@ -2,6 +2,7 @@
 use mathlib.Core.Path.{◌≡◌, refl, sym, ap, subst, ◌∙◌}
 use mathlib.Core.Logic.{◌≢◌, ◌⊎◌, inl, inr, ⊎_elim}
 use mathlib.Core.Option.{some}
+use Rattle.std.specs.Prelude.{Option, None, Some}
 use mathlib.Core.List.Memᴰ
 use mathlib.Core.List.{List, [], Memᴰ}
 use mathlib.Core.Bool.{false, not, ◌||◌}
@@ -32,7 +33,7 @@ use Rattle.variety.specs.Deeper.{deeper, insert_all}
 use Rattle.variety.proofs.Listing.{near-found, near_none}
 use Rattle.near_routes.specs.declared.Range.{Range}
 use Rattle.near_routes.specs.Tries.{goes_on}
-use Rattle.near_routes.specs.Deep.{seen_field, seen_at, trip_of, Deep, Went}
+use Rattle.near_routes.specs.Deep.{seen_field, seen_at, trip_of, Deep, Found, Went}
 use Rattle.near_routes.proofs.DeepLaws.{mark-go}
 use Rattle.near_list.specs.Near.{Asks, Lists}
 
@@ -78,15 +79,14 @@ module _ (t closed : List ℕ) (nodes s goal c d : ℕ) (path room : List ℕ) (
   pub shortest-few : long_at field e s ≤ far
   shortest-few = omega (arith, st.going.most s, start-go)
 
-  pub unreached : far ≤ long_at field e s → (w slots : ℕ) (l : List ℕ) → Lists t w slots (near (net_of nodes t closed) s goal c d) l l 0
-  unreached h w slots l =
-      inl (
-        omega arith,
-        none-listed t w l,
-        none-earlier w l ∙ sym (near_none (net_of nodes t closed) s goal c d
-            (go-none (net_of nodes t closed) (table-sound nodes t a.fine closed) s goal far a.s-below (go_in nodes e) st.going st.to-go (shorter-than-far nodes t closed 0 a.fine s a.s-below) (omega (arith, start-go)))),
-        refl,
-      )
+  pub unreached : far ≤ long_at field e s → (w slots : ℕ) (l : List ℕ) → Lists t w slots (near (net_of nodes t closed) s goal c d) l l (Some 0)
+  unreached h w slots l = (
+    omega arith,
+    none-listed t w l,
+    none-earlier w l ∙ sym (near_none (net_of nodes t closed) s goal c d
+        (go-none (net_of nodes t closed) (table-sound nodes t a.fine closed) s goal far a.s-below (go_in nodes e) st.going st.to-go (shorter-than-far nodes t closed 0 a.fine s a.s-below) (omega (arith, start-go)))),
+    refl,
+  )
 
   unmarked : (v : ℕ) → seen_at e v ≡ 0
   unmarked v = within-word_at st.within seen_field v refl refl ∙ ap (λ z. seen_at z v) is_b ∙ num-zeros 4 (length room) (v * room_bytes + seen_field)
@@ -145,11 +145,16 @@ module _ (t closed : List ℕ) (nodes s goal c d : ℕ) (path room : List ℕ) (
         (go-distance (net_of nodes t closed) (table-sound nodes t a.fine closed) s goal far a.s-below (go_in nodes e) st.going st.to-go (omega (arith, start-go)) ∙ ap some (start-go ∙ sym is-shortest))
         (go_in nodes e) st.to-go
 
-    pub lists : (m q g : List ℕ) (r : ℕ) → Went (record { nodes = nodes; start = s; goal = goal; d = d; most = (d + c) * shortest; slots = slots }) t closed l path f 0 0 m q g r
+    listed : (m : List ℕ) (r : Option ℕ) → Found (record { nodes = nodes; start = s; goal = goal; d = d; most = (d + c) * shortest; slots = slots }) t l (insert_all (arcs_of t) (earlier_in (nodes - 1) 0 l) (goes_on (trip_of y t closed f) (nodes - 1 - 0) [])) m r
+        → Lists t (nodes - 1) slots (near (net_of nodes t closed) s goal c d) l m r
+    listed m (Some r) o = (o.0, o.1, o.2 ∙ rs-is, o.3)
+    listed m None o = omega (arith, o, ap length rs-is)
+
+    pub lists : (m q g : List ℕ) (r : Option ℕ) → Went (record { nodes = nodes; start = s; goal = goal; d = d; most = (d + c) * shortest; slots = slots }) t closed l path f 0 0 m q g r
         → Lists t (nodes - 1) slots (near (net_of nodes t closed) s goal c d) l m r
         × (length m ≡ length l) × (length q ≡ length path) × (length g ≡ length room)
     lists m q g r w = (
-      ⊎_elim (λ o. inl (o.0, o.1, o.2 ∙ rs-is, o.3)) (λ o. inr (o.0, omega (arith, o.1, ap length rs-is))) w.found,
+      listed m r w.found,
       w.list-long,
       w.path-long,
       w.room.long ∙ ap length is_f ∙ length-put 4 e (s * room_bytes + seen_field) 1 ∙ room-long,

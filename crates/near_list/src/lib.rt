@@ -12,7 +12,7 @@ ghost use Rattle.near_list.specs.Near.{Asks, Lists};
 use near_routes::Range;
 
 // Lists them in at most `slots` slots; `path` holds one of them while it is made, and the room is
-// scratch. How many there are, or one more than the slots.
+// scratch. How many there are, or none where they are more than the slots.
 pub fn list(
     table: &[u8],
     closed: &[u8],
@@ -25,7 +25,7 @@ pub fn list(
     list: &mut [u32],
     path: &mut [u32],
     room: &mut [u8],
-) -> usize
+) -> Option<usize>
     requires { (Asks table.now nodes start goal c d path.old room.old)
         × (slots * (nodes - 1) ≤ length list.old) }
     ensures { (Lists table.now (nodes - 1) slots
@@ -35,21 +35,21 @@ pub fn list(
         × (length path.new ≡ length path.old)
         × (length room.new ≡ length room.old) }
 {
-    words::fill::fill8(room, 0);
+    words::fill::fill(room, 0);
     remaining::distances(table, closed, nodes, goal, room);
     let shortest = working_room::long(room, remaining::DISTANCE, start as usize);
     if remaining::FAR <= shortest {
-        return 0;
+        return Some(0);
     }
     working_room::put_word(room, near_routes::step::SEEN, start as usize, 1);
     let most = (d + c) * shortest;
     let x = Range {
-        nodes: nodes,
-        start: start,
-        goal: goal,
-        d: d,
-        most: most,
-        slots: slots,
+        nodes,
+        start,
+        goal,
+        d,
+        most,
+        slots,
     };
     near_routes::deeper(table, closed, x, list, path, room, 0, start, 0, 0)
 }

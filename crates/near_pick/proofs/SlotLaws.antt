@@ -60,11 +60,6 @@ pub slot-words : (w r : ℕ) (l : List ℕ) → r * w + w ≤ length l → lengt
 unfolding slot
 slot-words w r l h = length-take-le w (drop (r * w) l) (omega (arith, length-drop (r * w) l))
 
-pub whole-slot : (n w : ℕ) (xs ys : List ℕ) → n ≡ w → xs ≡ ys → length ys ≡ w → slot_of n xs ≡ ys
-whole-slot n w xs ys e f g =
-    let z : n - length xs ≡ 0 = omega (arith, ap length f) in
-    ap (λ k. xs ++ replicate k no_number) z ∙ append-nil xs ∙ f
-
 -- ---- one slot more
 
 slots-more : (w j : ℕ) (ps : List (List ℕ)) (p : List ℕ) → length ps ≡ j → slots w (suc j) (ps ++ (p ∷ [])) ≡ slots w j ps ++ slot_of w p

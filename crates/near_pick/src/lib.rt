@@ -19,7 +19,7 @@ fn put_route(list: &[u32], w: usize, r: usize, area: &mut [u32], j: usize)
 {
     let at = j * w;
     let end = at + w;
-    route_list::write(&mut area[at..end], route_list::slot(list, w, r));
+    area[at..end].copy_from_slice(route_list::slot(list, w, r));
 }
 
 // The routes of these ranks written to the area's first slots.
@@ -28,10 +28,8 @@ fn put_routes(list: &[u32], w: usize, ranks: &[usize], area: &mut [u32])
     ensures { area.new ≡ area_with w (length ranks.now) area.old
         (routes_at w list.now ranks.now) }
 {
-    let mut j = 0;
-    while j < ranks.len() {
-        put_route(list, w, ranks[j], area, j);
-        j += 1;
+    for (j, &r) in ranks.iter().enumerate() {
+        put_route(list, w, r, area, j);
     }
 }
 

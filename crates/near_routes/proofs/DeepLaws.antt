@@ -4,6 +4,7 @@ use mathlib.Core.Path.{◌≡◌, refl, sym, ap, ap₂, subst, fun_ext, ◌∙�
 use mathlib.Core.Logic.{◌≢◌, ◌⊎◌, inl, inr, ⊎_elim}
 use mathlib.Core.List.{List, [], ◌∷◌, ◌++◌, Memᴰ}
 use mathlib.Core.Bool.{Bool, true, false, not, ◌&&◌, ◌||◌, cond}
+use Rattle.std.specs.Prelude.{Option, None, Some}
 use Prim.Native.Nat.{ℕ, zero, suc, ◌+◌, ◌-◌, ◌*◌, ◌≤◌, ◌<◌}
 use native.Mathlib.Omega.{arith}
 use native.Mathlib.Numerals.{add-one}
@@ -41,7 +42,7 @@ use Rattle.variety.specs.Deeper.{may_arrive, insert_all}
 use Rattle.variety.proofs.Places.{insert_all-grows}
 use Rattle.near_routes.specs.declared.Range.{Range}
 use Rattle.near_routes.specs.Tries.{Trip, tries, goes_on, found_by, left, Fresh, FreshFrom}
-use Rattle.near_routes.specs.Deep.{seen_field, seen_at, wide, trip_of, goes_by, Deep, Kept, Went, Turning}
+use Rattle.near_routes.specs.Deep.{seen_field, seen_at, wide, trip_of, goes_by, Deep, Kept, Found, Went, Turning}
 use Rattle.near_routes.proofs.TryLaws.{deeper-there, deeper-run, tries-next, found-tried, found_none, left_step, left-done, insert_all-append, insert_all-one, insert_all-none, fresh_start, fresh-next, fresh-later, fresh-more, fresh-new}
 
 -- ---- tests
@@ -164,24 +165,24 @@ module _ (x : Range) (t closed l p b : List ℕ) (depth v size n : ℕ) (d : Dee
     there : insert_all (arcs_of t) (earlier_in (wide x) n l) (goes_on (trip_of x t closed b) (wide x - depth) (take depth p)) ≡ insert (length_of (arcs_of t)) (take depth p) (earlier_in (wide x) n l)
     there = ap (insert_all (arcs_of t) (earlier_in (wide x) n l)) (deeper-there (trip_of x t closed b) (wide x - depth) (take depth p) (d.ends ∙ e)) ∙ insert_all-one (arcs_of t) (take depth p) (earlier_in (wide x) n l)
 
-    pub arrived-full : x.slots ≤ n → (r : ℕ) → r ≡ x.slots + 1 → Went x t closed l p b depth n l p b r
-    arrived-full h r z =
+    pub arrived-full : x.slots ≤ n → Went x t closed l p b depth n l p b None
+    arrived-full h =
         record {
           list-long = refl;
           path-long = refl;
           path = refl;
           room = kept_same b;
-          found = inr (z, omega (arith, ap length there, insert-longer (length_of (arcs_of t)) (take depth p) (earlier_in (wide x) n l) path-new, length-earlier_in (wide x) n l));
+          found = omega (arith, ap length there, insert-longer (length_of (arcs_of t)) (take depth p) (earlier_in (wide x) n l) path-new, length-earlier_in (wide x) n l);
         }
 
-    pub arrived-placed : (m : List ℕ) (r : ℕ) → n < x.slots → r ≡ n + 1 → Placed t (wide x) n l (take depth p) m → Went x t closed l p b depth n m p b r
-    arrived-placed m r h z w =
+    pub arrived-placed : (m : List ℕ) → n < x.slots → Placed t (wide x) n l (take depth p) m → Went x t closed l p b depth n m p b (Some (n + 1))
+    arrived-placed m h w =
         record {
           list-long = w.long;
           path-long = refl;
           path = refl;
           room = kept_same b;
-          found = inl (omega arith, subst (λ k. Listed t (wide x) k m) (sym z) w.listed, ap (λ k. earlier_in (wide x) k m) z ∙ w.is ∙ sym there, subst (λ k. drop (k * wide x) m ≡ drop (k * wide x) l) (sym z) w.behind);
+          found = (omega arith, w.listed, w.is ∙ sym there, w.behind);
         }
 
   -- ---- the arcs of the run
@@ -210,14 +211,14 @@ module _ (x : Range) (t closed l p b : List ℕ) (depth v size n : ℕ) (d : Dee
             run-has x.nodes t d.fine v a k (sym (ap (λ z. z.from) (arc-is t a k)) ∙ y.starts ∙ d.ends)
 
   module _ (a e : ℕ) (m q c : List ℕ) (r : ℕ) (g : Turning x t closed l p b depth n a e m q c r) where
-    pub turn-done : e ≤ a → Went x t closed l p b depth n m q c r
+    pub turn-done : e ≤ a → Went x t closed l p b depth n m q c (Some r)
     turn-done h =
         record {
           list-long = g.list-long;
           path-long = g.path-long;
           path = g.path;
           room = g.room;
-          found = inl (g.few, g.listed, sym (ap (insert_all (arcs_of t) (earlier_in (wide x) r m)) (left-done (trip_of x t closed b) (wide x - depth - 1) (take depth p) a e h) ∙ insert_all-none (arcs_of t) (earlier_in (wide x) r m)) ∙ g.whole, g.behind);
+          found = (g.few, g.listed, sym (ap (insert_all (arcs_of t) (earlier_in (wide x) r m)) (left-done (trip_of x t closed b) (wide x - depth - 1) (take depth p) a e h) ∙ insert_all-none (arcs_of t) (earlier_in (wide x) r m)) ∙ g.whole, g.behind);
         }
 
     module _ (in-run : a < e) where
@@ -351,7 +352,7 @@ module _ (x : Range) (t closed l p b : List ℕ) (depth v size n : ℕ) (d : Dee
               ∙ ap (λ y. insert_all (arcs_of t) (earlier_in (wide x) r m) (y ++ left (trip_of x t closed b) (wide x - depth - 1) (take depth p) (a + 1) e)) (sym (found-tried (trip_of x t closed b) (wide x - depth - 1) (take depth p) a on))
               ∙ ap (insert_all (arcs_of t) (earlier_in (wide x) r m)) (sym step) ∙ g.whole
 
-          module _ (m₂ q₂ c₂ : List ℕ) (r₂ : ℕ) (w : Went x t closed m (set q depth a) (put_word seen_field c (to_at t a) 1) (depth + 1) r m₂ q₂ c₂ r₂) where
+          module _ (m₂ q₂ c₂ : List ℕ) (r₂ : Option ℕ) (w : Went x t closed m (set q depth a) (put_word seen_field c (to_at t a) 1) (depth + 1) r m₂ q₂ c₂ r₂) where
             path-back : take depth q₂ ≡ take depth p
             path-back =
                 let h : depth ≤ depth + 1 = omega arith in
@@ -363,47 +364,47 @@ module _ (x : Range) (t closed l p b : List ℕ) (depth v size n : ℕ) (d : Dee
             room_back : Kept b (put_word seen_field c₂ (to_at t a) 0)
             room_back = kept-turn b c c₂ (to_at t a) u-in g.room unmarked w.room
 
-            pub turn_more : r₂ ≤ x.slots → Turning x t closed l p b depth n (a + 1) e m₂ q₂ (put_word seen_field c₂ (to_at t a) 0) r₂
-            turn_more h = ⊎_elim (λ o. go o.1 (o.2 ∙ by-arc) o.3) (λ o. absurd (omega (arith, o.0))) w.found
+            found-is : (k : Option ℕ) → r₂ ≡ k
+                → Found x t m (insert_all (arcs_of t) (earlier_in (wide x) r m) (goes_on (trip_of x t closed (put_word seen_field c (to_at t a) 1)) (wide x - (depth + 1)) (take (depth + 1) (set q depth a)))) m₂ k
+            found-is k h =
+                subst (Found x t m (insert_all (arcs_of t) (earlier_in (wide x) r m) (goes_on (trip_of x t closed (put_word seen_field c (to_at t a) 1)) (wide x - (depth + 1)) (take (depth + 1) (set q depth a)))) m₂) h w.found
+
+            pub turn_more : (k : ℕ) → r₂ ≡ Some k → Turning x t closed l p b depth n (a + 1) e m₂ q₂ (put_word seen_field c₂ (to_at t a) 0) k
+            turn_more r₃ h = let o = found-is (Some r₃) h in go o.0 o.1 (o.2 ∙ by-arc) o.3
               where
-                go : Listed t (wide x) r₂ m₂ → earlier_in (wide x) r₂ m₂ ≡ insert_all (arcs_of t) (earlier_in (wide x) r m) (goes_on (trip_of x t closed b) (wide x - depth - 1) (take depth p ++ (a ∷ [])))
-                    → drop (r₂ * wide x) m₂ ≡ drop (r₂ * wide x) m → Turning x t closed l p b depth n (a + 1) e m₂ q₂ (put_word seen_field c₂ (to_at t a) 0) r₂
-                go is z y =
+                go : r₃ ≤ x.slots → Listed t (wide x) r₃ m₂ → earlier_in (wide x) r₃ m₂ ≡ insert_all (arcs_of t) (earlier_in (wide x) r m) (goes_on (trip_of x t closed b) (wide x - depth - 1) (take depth p ++ (a ∷ [])))
+                    → drop (r₃ * wide x) m₂ ≡ drop (r₃ * wide x) m → Turning x t closed l p b depth n (a + 1) e m₂ q₂ (put_word seen_field c₂ (to_at t a) 0) r₃
+                go few is z y =
                     record {
                       list-long = w.list-long ∙ g.list-long;
                       path-long = long-back;
                       path = path-back;
                       room = room_back;
-                      few = h;
+                      few = few;
                       listed = is;
                       whole = ap (λ k. insert_all (arcs_of t) k (left (trip_of x t closed b) (wide x - depth - 1) (take depth p) (a + 1) e)) z ∙ on-whole;
-                      behind = y ∙ drop-on l m (r * wide x) (r₂ * wide x) (mul-le-mul_right (wide x) grows) g.behind;
+                      behind = y ∙ drop-on l m (r * wide x) (r₃ * wide x) (mul-le-mul_right (wide x) grows) g.behind;
                       fresh = subst (FreshFrom (a + 1) (take depth p)) (sym z) (fresh-more (trip_of x t closed b) (wide x - depth - 1) (take depth p) (earlier_in (wide x) r m) a g.fresh);
                     }
                   where
-                    grows : r ≤ r₂
+                    grows : r ≤ r₃
                     grows =
-                        omega (arith, insert_all-grows (arcs_of t) (goes_on (trip_of x t closed b) (wide x - depth - 1) (take depth p ++ (a ∷ []))) (earlier_in (wide x) r m), ap length z, length-earlier_in (wide x) r₂ m₂, length-earlier_in (wide x) r m)
+                        omega (arith, insert_all-grows (arcs_of t) (goes_on (trip_of x t closed b) (wide x - depth - 1) (take depth p ++ (a ∷ []))) (earlier_in (wide x) r m), ap length z, length-earlier_in (wide x) r₃ m₂, length-earlier_in (wide x) r m)
 
-            pub turn-over : x.slots < r₂ → Went x t closed l p b depth n m₂ q₂ (put_word seen_field c₂ (to_at t a) 0) r₂
+            pub turn-over : r₂ ≡ None → Went x t closed l p b depth n m₂ q₂ (put_word seen_field c₂ (to_at t a) 0) None
             turn-over h =
                 record {
                   list-long = w.list-long ∙ g.list-long;
                   path-long = long-back;
                   path = path-back;
                   room = room_back;
-                  found = ⊎_elim (λ o. absurd (omega (arith, o.0)))
-                      (λ o. inr (
-                        o.0,
-                        omega (
-                          arith,
-                          o.1,
-                          ap length by-arc,
-                          ap length on-whole,
-                          insert_all-grows (arcs_of t) (left (trip_of x t closed b) (wide x - depth - 1) (take depth p) (a + 1) e) (insert_all (arcs_of t) (earlier_in (wide x) r m) (goes_on (trip_of x t closed b) (wide x - depth - 1) (take depth p ++ (a ∷ [])))),
-                        ),
-                      ))
-                      w.found;
+                  found = omega (
+                    arith,
+                    found-is None h,
+                    ap length by-arc,
+                    ap length on-whole,
+                    insert_all-grows (arcs_of t) (left (trip_of x t closed b) (wide x - depth - 1) (take depth p) (a + 1) e) (insert_all (arcs_of t) (earlier_in (wide x) r m) (goes_on (trip_of x t closed b) (wide x - depth - 1) (take depth p ++ (a ∷ [])))),
+                  );
                 }
 
 -- ---- what the calls ask and leave, by what they read
@@ -425,12 +426,13 @@ module _ (x : Range) (t closed l p b : List ℕ) (depth v size n : ℕ) (d : Dee
         path-new x t closed l p b depth v size n d,
       )
 
-  pub arrived : v ≡ x.goal → (m : List ℕ) (r : ℕ)
-      → ((x.slots ≤ n) × (r ≡ x.slots + 1) × (m ≡ l)) ⊎ ((n < x.slots) × (r ≡ n + 1) × Placed t (length p) n l (take depth p) m) → Went x t closed l p b depth n m p b r
+  pub arrived : v ≡ x.goal → (m : List ℕ) (r : Option ℕ)
+      → ((x.slots ≤ n) × (r ≡ None) × (m ≡ l)) ⊎ ((n < x.slots) × (r ≡ Some (n + 1)) × Placed t (length p) n l (take depth p) m) → Went x t closed l p b depth n m p b r
   arrived e m r o =
       ⊎_elim
-      (λ y. subst (λ z. Went x t closed l p b depth n z p b r) (sym y.2) (arrived-full x t closed l p b depth v size n d e y.0 r y.1))
-      (λ y. arrived-placed x t closed l p b depth v size n d e m r y.0 y.1 (subst (λ k. Placed t k n l (take depth p) m) d.path-long y.2))
+      (λ y. subst (λ k. Went x t closed l p b depth n m p b k) (sym y.1) (subst (λ z. Went x t closed l p b depth n z p b None) (sym y.2) (arrived-full x t closed l p b depth v size n d e y.0)))
+      (λ y. subst (λ k. Went x t closed l p b depth n m p b k) (sym y.1)
+      (arrived-placed x t closed l p b depth v size n d e m y.0 (subst (λ k. Placed t k n l (take depth p) m) d.path-long y.2)))
       o
 
   pub turn-begin : (lo hi : ℕ) → lo ≡ run_start t v → hi ≡ run_start t (v + 1) → v ≢ x.goal → (run_start t v ≤ lo) × Turning x t closed l p b depth n lo hi l p b n
@@ -478,7 +480,7 @@ module _ (x : Range) (t closed l p b : List ℕ) (depth v size n : ℕ) (d : Dee
         pub call-falls : length q' - (depth + 1) < length p - depth
         call-falls = omega (arith, ap length eq, length-set q depth a, g.path-long, d.path-long, room-on x t closed l p b depth v size n d a e m q c r g in-run is-e from_start on)
 
-        module _ (m₂ q₂ c₂ : List ℕ) (r₂ : ℕ) (w : Went x t closed m q' c' (depth + 1) r m₂ q₂ c₂ r₂) where
+        module _ (m₂ q₂ c₂ : List ℕ) (r₂ : Option ℕ) (w : Went x t closed m q' c' (depth + 1) r m₂ q₂ c₂ r₂) where
           w' : Went x t closed m (set q depth a) (put_word seen_field c (to_at t a) 1) (depth + 1) r m₂ q₂ c₂ r₂
           w' = subst (λ k. Went x t closed m k (put_word seen_field c (to_at t a) 1) (depth + 1) r m₂ q₂ c₂ r₂) eq (subst (λ k. Went x t closed m q' k (depth + 1) r m₂ q₂ c₂ r₂) room-is w)
 
@@ -489,14 +491,14 @@ module _ (x : Range) (t closed l p b : List ℕ) (depth v size n : ℕ) (d : Dee
             back_is : c₃ ≡ put_word seen_field c₂ (to_at t a) 0
             back_is = e₃ ∙ ap (λ k. put_word seen_field c₂ k 0) eu
 
-            pub went_on : r₂ ≤ x.slots → Turning x t closed l p b depth n (a + 1) e m₂ q₂ c₃ r₂
-            went_on h =
-                subst (λ k. Turning x t closed l p b depth n (a + 1) e m₂ q₂ k r₂) (sym back_is)
-                (turn_more x t closed l p b depth v size n d a e m q c r g in-run is-e from_start on m₂ q₂ c₂ r₂ w' h)
+            pub went_on : (r₃ : ℕ) → r₂ ≡ Some r₃ → Turning x t closed l p b depth n (a + 1) e m₂ q₂ c₃ r₃
+            went_on r₃ h =
+                subst (λ k. Turning x t closed l p b depth n (a + 1) e m₂ q₂ k r₃) (sym back_is)
+                (turn_more x t closed l p b depth v size n d a e m q c r g in-run is-e from_start on m₂ q₂ c₂ r₂ w' r₃ h)
 
-            pub went-over : x.slots < r₂ → Went x t closed l p b depth n m₂ q₂ c₃ r₂
+            pub went-over : r₂ ≡ None → Went x t closed l p b depth n m₂ q₂ c₃ None
             went-over h =
-                subst (λ k. Went x t closed l p b depth n m₂ q₂ k r₂) (sym back_is)
+                subst (λ k. Went x t closed l p b depth n m₂ q₂ k None) (sym back_is)
                 (turn-over x t closed l p b depth v size n d a e m q c r g in-run is-e from_start on m₂ q₂ c₂ r₂ w' h)
 
 -- ---- which arcs go on, by the bytes

@@ -1,5 +1,5 @@
 -- The listing in the buffers: the path gone by, the nodes visited, and the list.
-use Rattle.std.specs.Prelude.{◌≡◌, ◌⊎◌, List, Bool, not, ◌&&◌, ℕ, ◌+◌, ◌-◌, ◌*◌, ◌≤◌, ◌<◌, T, leb, eqb, length, take, drop}
+use Rattle.std.specs.Prelude.{◌≡◌, Option, None, Some, List, Bool, not, ◌&&◌, ℕ, ◌+◌, ◌-◌, ◌*◌, ◌≤◌, ◌<◌, T, leb, eqb, length, take, drop}
 use Rattle.lists.specs.Tests.{has}
 use Rattle.net.specs.Route.{visited, end_of, partial, length_of}
 use Rattle.table.specs.Table.{to_at, len_at, arcs_of, is_open_at, net_of}
@@ -59,12 +59,12 @@ pub record Kept (l m : List ℕ) : Type 0 where
   pub seens : (v : ℕ) → seen_at m v ≡ seen_at l v
 
 -- The routes rs are listed and what stands behind them is as it was in l; or they are more than the slots.
-abbrev pub Found : Range → List ℕ → List ℕ → List (List ℕ) → List ℕ → ℕ → Type 0
-Found x t l rs m r =
-    ((r ≤ x.slots) × Listed t (wide x) r m × (earlier_in (wide x) r m ≡ rs) × (drop (r * wide x) m ≡ drop (r * wide x) l)) ⊎ ((r ≡ x.slots + 1) × (x.slots < length rs))
+abbrev pub Found : Range → List ℕ → List ℕ → List (List ℕ) → List ℕ → Option ℕ → Type 0
+Found x t l rs m (Some r) = (r ≤ x.slots) × Listed t (wide x) r m × (earlier_in (wide x) r m ≡ rs) × (drop (r * wide x) m ≡ drop (r * wide x) l)
+Found x t l rs m None = x.slots < length rs
 
 -- What the listing from a path of `depth` arcs leaves.
-pub record Went (x : Range) (t closed l p b : List ℕ) (depth n : ℕ) (m q c : List ℕ) (r : ℕ) : Type 0 where
+pub record Went (x : Range) (t closed l p b : List ℕ) (depth n : ℕ) (m q c : List ℕ) (r : Option ℕ) : Type 0 where
   pub list-long : length m ≡ length l
   pub path-long : length q ≡ length p
   pub path : take depth q ≡ take depth p

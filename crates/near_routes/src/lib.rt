@@ -20,7 +20,7 @@ pub struct Range {
 }
 
 // Lists the routes in range that go on from a path of `depth` arcs and this length to node v, beside
-// the n listed. How many are listed then, or one more than there are slots.
+// the n listed. How many are listed then, or none where they are more than the slots.
 pub fn deeper(
     table: &[u8],
     closed: &[u8],
@@ -32,34 +32,27 @@ pub fn deeper(
     v: u32,
     size: u64,
     n: usize,
-) -> usize
+) -> Option<usize>
     requires { Deep x table.now closed.now list.old path.old room.old depth v size n }
     ensures { Went x table.now closed.now list.old
         path.old room.old depth n list.new path.new
         room.new result }
 {
     let nodes = x.nodes;
-    let slots = x.slots;
     if v == x.goal {
-        return step::arrive(table, nodes, slots, list, path, depth, size, n);
+        return step::arrive(table, nodes, x.slots, list, path, depth, size, n);
     }
     let end = table::run::run_start(table, nodes, v + 1);
     let mut found = n;
-    let mut a = table::run::run_start(table, nodes, v);
-    while a < end {
+    for a in table::run::run_start(table, nodes, v)..end {
         if step::goes(table, closed, x, room, a, size) {
             let u = table::arc::to_of(table, a);
             let on = size + table::arc::length_of(table, a) as u64;
             step::enter(path, room, depth, a, u as usize);
-            found = deeper(table, closed, x, list, path, room, depth + 1, u, on, found);
+            let listed = deeper(table, closed, x, list, path, room, depth + 1, u, on, found);
             step::leave(room, u as usize);
-            if slots < found {
-                return found;
-            }
-            a += 1;
-            continue;
+            found = listed?;
         }
-        a += 1;
     }
-    found
+    Some(found)
 }

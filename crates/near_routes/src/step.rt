@@ -1,5 +1,5 @@
 // The steps of the listing.
-ghost use Rattle.std.specs.Prelude.{◌≡◌, ◌⊎◌, ℕ, ◌+◌, ◌*◌, ◌≤◌, ◌<◌, length, set, take};
+ghost use Rattle.std.specs.Prelude.{◌≡◌, ◌⊎◌, None, Some, ℕ, ◌+◌, ◌*◌, ◌≤◌, ◌<◌, length, set, take};
 ghost use mathlib.Core.List.{Memᴰ};
 ghost use Rattle.net.specs.Limits.{most_nodes};
 ghost use Rattle.net.specs.Route.{length_of};
@@ -38,7 +38,8 @@ pub fn goes(table: &[u8], closed: &[u8], x: Range, room: &[u8], a: usize, size: 
     whole * x.d <= x.most
 }
 
-// A path that has arrived is put in its place, if there is a slot. How many are listed then.
+// A path that has arrived is put in its place, if there is a slot. How many are listed then, or none
+// where there is no slot.
 pub fn arrive(
     table: &[u8],
     nodes: u32,
@@ -48,23 +49,23 @@ pub fn arrive(
     depth: usize,
     size: u64,
     n: usize,
-) -> usize
+) -> Option<usize>
     requires { (table_fault nodes table.now ≡ good)
         × (Listed table.now (length path.now) n list.old) × (length path.now ≤ most_nodes)
         × (size ≡ length_of (arcs_of table.now) (take depth path.now)) × (depth ≤ length path.now)
         × (Fits table.now (length path.now) (take depth path.now))
         × (slots * length path.now ≤ length list.old) × (slots < 4611686018427387904)
         × (Memᴰ (take depth path.now) (earlier_in (length path.now) n list.old) → ⊥) }
-    ensures { ((slots ≤ n) × (result ≡ slots + 1) × (list.new ≡ list.old))
-        ⊎ ((n < slots) × (result ≡ n + 1) × (Placed table.now (length path.now) n
+    ensures { ((slots ≤ n) × (result ≡ None) × (list.new ≡ list.old))
+        ⊎ ((n < slots) × (result ≡ Some (n + 1)) × (Placed table.now (length path.now) n
         list.old (take depth path.now) list.new)) }
 {
     if slots <= n {
-        return slots + 1;
+        return None;
     }
     let w = path.len();
     route_list::place(table, nodes, list, w, n, &path[0..depth], size);
-    n + 1
+    Some(n + 1)
 }
 
 // Arc a is the next of the path, and node u, to which it leads, is visited.

@@ -26,10 +26,8 @@ pub fn fill(room: &mut [u8], n: usize, x: u64)
     requires { Roomy n room.old }
     ensures { Filled n room.old x room.new }
 {
-    let mut v = 0;
-    while v < n {
+    for v in 0..n {
         fill_node(room, v, x);
-        v += 1;
     }
 }
 

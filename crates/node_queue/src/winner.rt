@@ -24,26 +24,7 @@ fn choose(room: &[u8], v: usize, w: usize) -> usize
 {
     let k = working_room::long(room, KEY, v);
     let m = working_room::long(room, KEY, w);
-    if m < k {
-        return w;
-    }
-    v
-}
-
-// The part, from e on, of a block of `size` nodes that has all that are below n and is no larger
-// than that takes.
-fn narrow(e: usize, size: usize, n: usize) -> usize
-    requires { (Block e size) × (e ≤ most_nodes) × (size ≤ most_nodes) }
-    ensures { Narrowed n e size result }
-{
-    let mut s = size;
-    while 1 < s {
-        if e + s / 2 < n {
-            return s;
-        }
-        s = s / 2;
-    }
-    s
+    if m < k { w } else { v }
 }
 
 // The first of the block of `half` nodes from e on, of which s nodes matter.
@@ -67,7 +48,7 @@ fn first_in(room: &[u8], n: usize, e: usize, half: usize) -> usize
     if e + half <= n {
         return first_of(room, n, e, half, half);
     }
-    let s = narrow(e, half, n);
+    let s = search_tree::narrow(e, half, n);
     first_of(room, n, e, half, s)
 }
 

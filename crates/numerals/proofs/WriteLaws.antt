@@ -2,12 +2,14 @@
 -- first part to the front of the second; at the end one digit is left, and it goes to the first place.
 use mathlib.Core.Path.{◌≡◌, refl, sym, ap, ◌∙◌}
 use mathlib.Core.List.{List, [], ◌∷◌, ◌++◌, append-nil}
+use mathlib.Core.Logic.{⊎_elim}
 use Prim.Native.Nat.{ℕ, suc, ◌+◌, ◌-◌, ◌/◌, ◌%◌, ◌^◌, ◌≤◌, ◌<◌}
 use native.Mathlib.Omega.{arith}
 use lib.ListN.{length, set, drop, length-append, length-set}
 use lib.Seq.{drop-cons, drop-length, get_or-set_same, drop-set-lt, append_snoc}
 use Rattle.numerals.specs.Decimal.{decimal}
-use Rattle.numerals.proofs.DecimalLaws.{decimal-one, decimal-more}
+use Rattle.lists.proofs.Cases.{order}
+use Rattle.numerals.proofs.DecimalLaws.{decimal-one, decimal-more, decimal-length}
 
 pub back_start : (l s : List ℕ) → l ++ drop (length s) s ≡ l
 back_start l s = rw (drop-length s) (append-nil l)
@@ -36,3 +38,43 @@ module _ (s : List ℕ) (w k : ℕ) (n : k ≡ length (decimal w)) where
       front : (l : List ℕ) → 1 ≤ length l → set l 0 (48 + w) ≡ (48 + w) ∷ drop 1 l
       front [] q = absurd (omega arith)
       front (x ∷ l) q = refl
+
+-- ---- the turns of a loop over the places, from the last to the first: k places are left, and the digits of w are for them
+
+pub record Left (s : List ℕ) (v w k : ℕ) : Type 0 where
+  pub less : w ≤ v
+  pub as_many : 0 < k → k ≡ length (decimal w)
+  pub whole : 0 < k → decimal w ++ drop k s ≡ decimal v
+  pub done : k ≡ 0 → s ≡ decimal v
+
+pub left_start : (s : List ℕ) (v : ℕ) → length s ≡ length (decimal v) → Left s v v (length s)
+left_start s v e = record {
+  less = omega arith;
+  as_many = λ h. e;
+  whole = λ h. back_start (decimal v) s;
+  done = λ h. absurd (omega (arith, decimal-length v));
+}
+
+pub left-less : (s : List ℕ) (v w k : ℕ) → Left s v w k → 0 < k → k ≤ length s → v < 2 ^ 64 → Left (set s (k - 1) (48 + w % 10)) v (w / 10) (k - 1)
+left-less s v w k a p r h =
+    let e : decimal w ++ drop k s ≡ decimal v = a.whole p in
+    let n : k ≡ length (decimal w) = a.as_many p in
+    ⊎_elim
+    (λ z.
+    let o : k ≡ 1 = omega (arith, n, ap length (decimal-one w (omega arith))) in
+    let m : w % 10 ≡ w = omega arith in
+    record {
+      less = omega (arith, a.less);
+      as_many = λ g. absurd (omega arith);
+      whole = λ g. absurd (omega arith);
+      done = λ g. rw (m, o) (write-last s w k n (omega arith) (omega arith) ∙ e);
+    })
+    (λ z.
+    let l : k ≡ 1 + length (decimal (w / 10)) = write-less s w k n z (omega (arith, a.less)) in
+    record {
+      less = omega (arith, a.less);
+      as_many = λ g. omega (arith, l);
+      whole = λ g. write_step s w k n z (omega (arith, a.less)) r ∙ e;
+      done = λ g. absurd (omega (arith, l, decimal-length (w / 10)));
+    })
+    (order w 9)

@@ -8,67 +8,62 @@ ghost use Rattle.numerals.specs.Read.{read_of};
 
 const MOST: u64 = 4294967295;
 
-// What stands at a place of a text: a number and the place after it, or no number.
-#[derive(Drop)]
-pub enum Numeral {
-    Number(u32, usize),
-    NoNumber,
+// A number that stands in a text, and the place after it.
+#[derive(Clone, Copy, Debug, PartialEq, Eq)]
+pub struct Numeral {
+    pub value: u32,
+    pub next: usize,
 }
 
 // Whether a digit stands at place i: past the end none does.
 fn digit_at(text: &[u8], i: usize) -> bool
     ensures { result ≡ is_digit (get_or text.now i 0) }
 {
-    if text.len() <= i {
-        return false;
-    }
-    let b = text[i];
-    if b < b'0' {
-        return false;
-    }
-    b <= b'9'
+    i < text.len() && text[i].is_ascii_digit()
 }
 
 // Whether the digits at place `at` may be a number: there are some, and no zero leads others.
 fn well_formed(text: &[u8], at: usize) -> bool
     ensures { result ≡ well_formed (digits (drop at text.now)) }
 {
-    if !digit_at(text, at) {
-        return false;
-    }
-    if text[at] != b'0' {
-        return true;
-    }
-    !digit_at(text, at + 1)
+    digit_at(text, at) && (text[at] != b'0' || !digit_at(text, at + 1))
 }
 
 // The number of all digits from place `at` on, given up as soon as it is too large.
-fn collect(text: &[u8], at: usize) -> Numeral
+fn collect(text: &[u8], at: usize) -> Option<Numeral>
     requires { (at ≤ length text.now)
         × (well_formed (digits (drop at text.now)) ≡ true) }
     ensures { read_of at result ≡ number (drop at text.now) }
 {
-    let mut n = 0u64;
-    let mut i = at;
-    while digit_at(text, i) {
-        n = n * 10 + (text[i] - b'0') as u64;
-        if MOST < n {
-            return Numeral::NoNumber;
+    let mut value = 0u64;
+    for i in at..text.len() {
+        if !text[i].is_ascii_digit() {
+            return Some(Numeral {
+                value: value as u32,
+                next: i,
+            });
         }
-        i += 1;
+        value = value * 10 + (text[i] - b'0') as u64;
+        if MOST < value {
+            return None;
+        }
     }
-    Numeral::Number(n as u32, i)
+    Some(Numeral {
+        value: value as u32,
+        next: text.len(),
+    })
 }
 
 // The number at place `at`: all digits that stand there.
-pub fn read(text: &[u8], at: usize) -> Numeral
+pub fn read(text: &[u8], at: usize) -> Option<Numeral>
     requires { at ≤ length text.now }
     ensures { read_of at result ≡ number (drop at text.now) }
 {
     if well_formed(text, at) {
-        return collect(text, at);
+        collect(text, at)
+    } else {
+        None
     }
-    Numeral::NoNumber
 }
 
 // How many digits v has.
@@ -78,7 +73,7 @@ pub fn digit_count(v: u64) -> usize
     let mut k = 1;
     let mut w = v;
     while 10 <= w {
-        w = w / 10;
+        w /= 10;
         k += 1;
     }
     k
@@ -89,14 +84,11 @@ fn fill_digits(s: &mut [u8], v: u64)
     requires { length s.old ≡ length (decimal v) }
     ensures { s.new ≡ decimal v }
 {
-    let mut k = s.len();
     let mut w = v;
-    while 10 <= w {
-        k -= 1;
-        s[k] = (48 + w % 10) as u8;
-        w = w / 10;
+    for k in (0..s.len()).rev() {
+        s[k] = b'0' + (w % 10) as u8;
+        w /= 10;
     }
-    s[0] = (48 + w) as u8;
 }
 
 // The digits of v at place `at`, where there is room for them; the place after them.

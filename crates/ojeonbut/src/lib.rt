@@ -18,7 +18,7 @@ ghost use Rattle.road_read.specs.Read.{Read};
 ghost use Rattle.road_write.specs.Written.{Written};
 ghost use Rattle.ojeonbut.specs.Exported.{version};
 
-use outcome::Told;
+use outcome::{Outcome, Told};
 use road_made::MadeNumbers;
 use table_part::Part;
 
@@ -36,7 +36,10 @@ pub fn ojeonbut_version() -> u32
 pub fn ojeonbut_check(table: &[u8], nodes: u32) -> Told
     ensures { result ≡ table_fault nodes table.now }
 {
-    table::fault::check(table, nodes)
+    match table::fault::check(table, nodes) {
+        Ok(()) => Outcome::Found.plain(),
+        Err(refusal) => Told::from(refusal),
+    }
 }
 
 // Where the arcs that leave node v stand in the table; an empty part where the table has a fault or
@@ -233,8 +236,7 @@ pub fn ojeonbut_read_roads(text: &[u8], table: &mut [u8]) -> MadeNumbers
     ensures { Numbered (λ answer. Read text.now table.old answer
         table.new) result }
 {
-    let made = road_read::read(text, table);
-    road_made::numbers(made)
+    MadeNumbers::from(road_read::read(text, table))
 }
 
 // A table of so many nodes written as a road file: the text's bytes.
@@ -242,8 +244,7 @@ pub fn ojeonbut_write_roads(table: &[u8], nodes: u32, text: &mut [u8]) -> MadeNu
     ensures { Numbered (λ answer. Written nodes table.now text.old
         answer text.new) result }
 {
-    let made = road_write::write(table, nodes, text);
-    road_made::numbers(made)
+    MadeNumbers::from(road_write::write(table, nodes, text))
 }
 
 // The routes in `routes` slots of `width` words stored under a plan number in a file of accepted

@@ -1,6 +1,9 @@
 -- The outcomes of document 01, each by its number.
-use Rattle.std.specs.Prelude.{ℕ}
+use Rattle.std.specs.Prelude.{ℕ, Result, Ok, Err, Option, None, Some}
 use Rattle.outcome.specs.declared.Told.{Told}
+use Rattle.outcome.specs.declared.Outcome.{Outcome}
+use Rattle.outcome.specs.declared.Refusal.{Refusal}
+use Rattle.outcome.specs.declared.Outcome.TheVariants.{Found, Fewer, Node, Loop, Length, Order, Ends, Routes, Threshold, Buffers, Room, Text, Size, File, Closures, PlanFile, PlanRequest, PlanThere, PlanRoom, Second, NoPair, Range, ListFull, TooFew, OldForm, Numbered}
 
 -- "k routes found"
 abbrev pub found : ℕ
@@ -116,3 +119,45 @@ plain n = record { outcome = n; number = 0 }
 -- The number beside an outcome: a record's or a round's.
 abbrev pub beside : ℕ → ℕ → Told
 beside n i = record { outcome = n; number = i }
+
+-- The number of an outcome.
+abbrev pub number_of : Outcome → ℕ
+number_of Found = found
+number_of Fewer = fewer
+number_of Node = node
+number_of Loop = loop
+number_of Length = length_out
+number_of Order = order
+number_of Ends = ends
+number_of Routes = routes
+number_of Threshold = threshold
+number_of Buffers = buffers
+number_of Room = room
+number_of Text = text
+number_of Size = size
+number_of File = file
+number_of Closures = closures
+number_of PlanFile = plan_file
+number_of PlanRequest = plan_request
+number_of PlanThere = plan_there
+number_of PlanRoom = plan_room
+number_of Second = second_table
+number_of NoPair = no_pair
+number_of Range = range_out
+number_of ListFull = list_full
+number_of TooFew = too_few
+number_of OldForm = old_form
+number_of Numbered = numbered
+
+-- What is told of a refusal; and where a call may go on, 0.
+abbrev pub told_of : Refusal → Told
+told_of refusal = beside (number_of refusal.outcome) refusal.number
+
+abbrev pub told_by : {X : Type 0} → Result X Refusal → Told
+told_by (Ok _) = plain found
+told_by (Err refusal) = told_of refusal
+
+-- The number of an outcome that may be none: then 0.
+abbrev pub number_by : Option Outcome → ℕ
+number_by None = 0
+number_by (Some outcome) = number_of outcome

@@ -1,73 +1,100 @@
 // What every call answers: document 01's number of the outcome, and the number beside it.
 // specs/Outcome.antt says what each number means.
-ghost use Rattle.std.specs.Prelude.{◌≡◌};
-ghost use Rattle.outcome.specs.Outcome.{plain};
+#![tactic(auto)]
 
+ghost use Rattle.std.specs.Prelude.{◌≢◌};
+ghost use Rattle.outcome.specs.declared.Outcome.TheVariants.{Found};
+
+/// The outcomes of document 01 by their numbers; 5 and 26 are given no longer.
+#[derive(Clone, Copy, Debug, PartialEq, Eq)]
+pub enum Outcome {
+    Found = 0,
+    Fewer = 1,
+    Node = 2,
+    Loop = 3,
+    Length = 4,
+    Order = 6,
+    Ends = 7,
+    Routes = 8,
+    Threshold = 9,
+    Buffers = 10,
+    Room = 11,
+    Text = 12,
+    Size = 13,
+    File = 14,
+    Closures = 15,
+    PlanFile = 16,
+    PlanRequest = 17,
+    PlanThere = 18,
+    PlanRoom = 19,
+    Second = 20,
+    NoPair = 21,
+    Range = 22,
+    ListFull = 23,
+    TooFew = 24,
+    OldForm = 25,
+    Numbered = 27,
+}
+
+/// What is told of a call, as C has it.
 #[repr(C)]
-#[derive(Drop)]
+#[derive(Clone, Copy, Debug, PartialEq, Eq)]
 pub struct Told {
     pub outcome: u32,
     pub number: u32,
 }
 
-pub const FOUND: u32 = 0;
+/// Why a call is refused: an outcome that is not 0, and the record, line or round that it names, or 0.
+#[derive(Clone, Copy, Debug, PartialEq, Eq)]
+pub struct Refusal {
+    pub outcome: Outcome,
+    pub number: u32,
+    ghost refused: { outcome ≢ Found },
+}
 
-pub const FEWER: u32 = 1;
+impl Outcome {
+    ghost use Rattle.std.specs.Prelude.{◌≡◌};
+    ghost use Rattle.outcome.specs.Outcome.{plain, beside, number_of};
 
-pub const NODE: u32 = 2;
+    /// The outcome, with this number beside it.
+    pub fn beside(self, number: u32) -> Told
+        ensures { result ≡ beside (number_of self) number }
+    {
+        Told {
+            outcome: self as u32,
+            number,
+        }
+    }
 
-pub const LOOP: u32 = 3;
+    /// The outcome, with no number named.
+    pub fn plain(self) -> Told
+        ensures { result ≡ plain (number_of self) }
+    {
+        self.beside(0)
+    }
+}
 
-pub const LENGTH: u32 = 4;
+impl Refusal {
+    ghost use Rattle.std.specs.Prelude.{◌≡◌, ◌≢◌};
+    ghost use Rattle.outcome.specs.declared.Outcome.TheVariants.{Found};
+    ghost use Rattle.outcome.specs.Outcome.{plain, number_of, told_of};
 
-pub const ORDER: u32 = 6;
+    /// A refusal that names no record, line or round.
+    pub fn plain(outcome: Outcome) -> Refusal
+        requires { outcome ≢ Found }
+        ensures { told_of result ≡ plain (number_of outcome) }
+    {
+        Refusal { outcome, number: 0 }
+    }
+}
 
-pub const ENDS: u32 = 7;
+impl From<Refusal> for Told {
+    ghost use Rattle.std.specs.Prelude.{◌≡◌};
+    ghost use Rattle.outcome.specs.Outcome.{told_of};
 
-pub const ROUTES: u32 = 8;
+    ghost from_gives = { λ refusal told. told ≡ told_of refusal };
 
-pub const THRESHOLD: u32 = 9;
-
-pub const BUFFERS: u32 = 10;
-
-pub const ROOM: u32 = 11;
-
-pub const TEXT: u32 = 12;
-
-pub const SIZE: u32 = 13;
-
-pub const FILE: u32 = 14;
-
-pub const CLOSURES: u32 = 15;
-
-pub const PLAN_FILE: u32 = 16;
-
-pub const PLAN_REQUEST: u32 = 17;
-
-pub const PLAN_THERE: u32 = 18;
-
-pub const PLAN_ROOM: u32 = 19;
-
-pub const SECOND: u32 = 20;
-
-pub const NO_PAIR: u32 = 21;
-
-pub const RANGE: u32 = 22;
-
-pub const LIST_FULL: u32 = 23;
-
-pub const TOO_FEW: u32 = 24;
-
-pub const OLD_FORM: u32 = 25;
-
-pub const NUMBERED: u32 = 27;
-
-// An outcome beside which no number is named.
-pub fn plain(outcome: u32) -> Told
-    ensures { result ≡ plain outcome }
-{
-    Told {
-        outcome: outcome,
-        number: 0,
+    fn from(refusal: Refusal) -> Told {
+        refusal.outcome.beside(refusal.number)
     }
 }

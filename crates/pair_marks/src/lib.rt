@@ -22,11 +22,9 @@ fn blank(room: &mut [u8], n: usize)
         × ((v : ℕ) → kept_in n room.new v ≡ none)
         × ((v : ℕ) → added_in n room.new v ≡ none) }
 {
-    let mut v = 0;
-    while v < n {
+    for v in 0..n {
         working_room::put_word(room, KEPT, v, NONE);
         working_room::put_word(room, ADDED, v, NONE);
-        v += 1;
     }
 }
 

@@ -123,13 +123,11 @@ fn own(
     let v = u as u32;
     let end = table.len() / table::arc::RECORD;
     let mut first = root;
-    let mut a = run_notes::start_of(table, nodes, room, v);
-    while a < end {
+    for a in run_notes::start_of(table, nodes, room, v)..end {
         if table::arc::from_of(table, a) != v {
             return first;
         }
         first = pass(table, closed, nodes, room, first, u, d, a);
-        a += 1;
     }
     first
 }

@@ -42,9 +42,10 @@ fn next(room: &[u8], own: usize, other: usize, v: usize) -> u32
 {
     let a = working_room::word(room, own, v);
     if a == NONE {
-        return working_room::word(room, other, v);
+        working_room::word(room, other, v)
+    } else {
+        a
     }
-    a
 }
 
 // The walk from s to the goal, in the first words of a slot.
@@ -102,7 +103,7 @@ fn walk(
 {
     let way = follow(table, nodes, s, goal, room, own, other, slot);
     let w = slot.len();
-    words::fill::fill32_part(slot, way.arcs, w, NONE);
+    words::fill::fill_part(slot, way.arcs, w, NONE);
     way
 }
 
@@ -153,30 +154,14 @@ fn both(
 {
     let first = put(table, nodes, s, goal, room, own, other, area, 0);
     let second = put(table, nodes, s, goal, room, other, own, area, 1);
-    Ways {
-        first: first,
-        second: second,
-    }
+    Ways { first, second }
 }
 
 // Whether the arc numbers of p come first, compared from the start.
 fn numbers_first(p: &[u32], q: &[u32]) -> bool
     ensures { result ≡ numbers_first p.now q.now }
 {
-    let mut i = 0;
-    while i < q.len() {
-        if p.len() <= i {
-            return true;
-        }
-        if p[i] < q[i] {
-            return true;
-        }
-        if q[i] < p[i] {
-            return false;
-        }
-        i += 1;
-    }
-    false
+    p < q
 }
 
 // Whether the route of the second slot precedes that of the first.
@@ -188,15 +173,8 @@ fn turned(area: &[u32], w: usize, x: Ways) -> bool
 {
     let p = x.first;
     let q = x.second;
-    if q.length < p.length {
-        return true;
-    }
-    if p.length < q.length {
-        return false;
-    }
-    let end = w + q.arcs;
-    let m = p.arcs;
-    numbers_first(&area[w..end], &area[0..m])
+    q.length < p.length
+        || q.length == p.length && numbers_first(&area[w..w + q.arcs], &area[..p.arcs])
 }
 
 // The pair in the first two slots, the one that precedes in the first.

@@ -97,8 +97,5 @@ module _ (f : List ℕ) (plan : ℕ) where
   -- ---- the call as a whole
 
   module _ (answer : Told) (f' : List ℕ) where
-    pub withdrawn-not : told ≢ found → answer ≡ plain told → f' ≡ f → Withdrawn f plan answer f'
-    withdrawn-not ne a e = record { told = a; file = rw (ne_eqb told found ne) e }
-
     pub withdrawn-so : told ≡ found → answer ≡ plain found → f' ≡ withdrawn_in f plan → Withdrawn f plan answer f'
     withdrawn-so e a g = record { told = a ∙ ap plain (sym e); file = rw (eq-eqb told found e) g }

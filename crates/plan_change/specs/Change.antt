@@ -1,5 +1,5 @@
 -- Withdrawing a plan, and collecting the records in use (document 02, item 6): the answers, and the file afterwards.
-use Rattle.std.specs.Prelude.{◌≡◌, Bool, not, cond, ℕ, ◌*◌, eqb, length, replicate}
+use Rattle.std.specs.Prelude.{◌≡◌, not, cond, ℕ, ◌*◌, eqb, length, replicate}
 use mathlib.Core.List.{List, ◌++◌, flat_map}
 use Rattle.lists.specs.Tests.{up_from, keep}
 use Rattle.words.specs.Part.{slot}

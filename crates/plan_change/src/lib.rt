@@ -2,27 +2,28 @@
 #![tactic(auto)]
 
 ghost use Rattle.std.specs.Prelude.{◌≡◌, ◌%◌, ◌≤◌, ◌<◌, length};
+ghost use Rattle.outcome.specs.Outcome.{plain, told_by};
 ghost use Rattle.plan_record.specs.Record.{record_bytes, records, with_record};
 ghost use Rattle.plan_change.specs.Change.{withdrawn_in, withdraw_outcome, Withdrawn};
 ghost use Rattle.plan_change.specs.Change.{collected_in, Collected};
 ghost use Rattle.plan_change.specs.Moved.{withdrawn_at, moved_to, moved_next, Moved};
 
-use outcome::Told;
+use outcome::{Outcome, Refusal, Told};
 
-// The refusals in their order, or 0.
-fn refused(file: &[u8], plan: u32) -> u32
-    ensures { result ≡ withdraw_outcome file.now plan }
+// The refusals in their order.
+fn refused(file: &[u8], plan: u32) -> Result<(), Refusal>
+    ensures { told_by result ≡ plain (withdraw_outcome file.now plan) }
 {
     if plan_file::wrong(file) {
-        return outcome::PLAN_FILE;
+        return Err(Refusal::plain(Outcome::PlanFile));
     }
     if plan == 0 {
-        return outcome::PLAN_REQUEST;
+        return Err(Refusal::plain(Outcome::PlanRequest));
     }
     if !plan_file::has_plan(file, plan) {
-        return outcome::PLAN_THERE;
+        return Err(Refusal::plain(Outcome::PlanThere));
     }
-    outcome::FOUND
+    Ok(())
 }
 
 // Record i made free where it is the plan's.
@@ -41,11 +42,8 @@ fn clear_all(file: &mut [u8], plan: u32)
     requires { length file.old % record_bytes ≡ 0 }
     ensures { file.new ≡ withdrawn_in file.old plan }
 {
-    let n = file.len() / plan_record::RECORD;
-    let mut i = 0;
-    while i < n {
+    for i in 0..file.len() / plan_record::RECORD {
         clear_of(file, i, plan);
-        i += 1;
     }
 }
 
@@ -54,12 +52,11 @@ fn clear_all(file: &mut [u8], plan: u32)
 pub fn withdraw(file: &mut [u8], plan: u32) -> Told
     ensures { Withdrawn file.old plan result file.new }
 {
-    let outcome = refused(file, plan);
-    if outcome != outcome::FOUND {
-        return outcome::plain(outcome);
+    if let Err(refusal) = refused(file, plan) {
+        return refusal.into();
     }
     clear_all(file, plan);
-    outcome::plain(outcome::FOUND)
+    Outcome::Found.plain()
 }
 
 // Record i as record w, which is not after it, where it is in use; the record for the next.
@@ -79,12 +76,9 @@ fn move_record(file: &mut [u8], w: usize, i: usize) -> usize
 fn move_all(file: &mut [u8]) -> usize
     ensures { Moved file.old result file.new }
 {
-    let n = file.len() / plan_record::RECORD;
     let mut w = 0;
-    let mut i = 0;
-    while i < n {
+    for i in 0..file.len() / plan_record::RECORD {
         w = move_record(file, w, i);
-        i += 1;
     }
     w
 }
@@ -96,7 +90,7 @@ fn collect_all(file: &mut [u8])
 {
     let from = move_all(file) * plan_record::RECORD;
     let end = file.len();
-    words::fill::fill8_part(file, from, end, 0);
+    words::fill::fill_part(file, from, end, 0);
 }
 
 // The records in use moved to the front in their order, and zeros after them. A file out of form is
@@ -105,8 +99,8 @@ pub fn collect(file: &mut [u8]) -> Told
     ensures { Collected file.old result file.new }
 {
     if plan_file::wrong(file) {
-        return outcome::plain(outcome::PLAN_FILE);
+        return Outcome::PlanFile.plain();
     }
     collect_all(file);
-    outcome::plain(outcome::FOUND)
+    Outcome::Found.plain()
 }

@@ -3,7 +3,7 @@
 -- last record the words are the routes' (`route-word`), slot after slot (`laid-all`).
 use mathlib.Core.Path.{◌≡◌, refl, sym, ap, ap₂, ◌∙◌}
 use mathlib.Core.Bool.{false, cond}
-use mathlib.Core.List.{List, [], ◌∷◌, ◌++◌, flat_map, append_assoc}
+use mathlib.Core.List.{List, ◌++◌, flat_map, append_assoc}
 use mathlib.Core.Logic.{◌≢◌, ◌⊎◌, inl, inr, ⊎_elim}
 use Prim.Native.Nat.{ℕ, zero, suc, ◌+◌, ◌-◌, ◌*◌, ◌/◌, ◌%◌, ◌≤◌, ◌<◌}
 use native.Mathlib.Omega.{arith}
@@ -23,6 +23,7 @@ use Rattle.labels.specs.Field.{no_number}
 use Rattle.labels.specs.Chain.{slot_of}
 use Rattle.plan_record.specs.Record.{records, plan_at, rank_at, used_at, part_at, part_arcs, arc_at, arcs_at}
 use Rattle.plan_record.proofs.PatchLaws.{get_or-patch-other}
+use Rattle.plan_record.proofs.StoreLaws.{get_or-within}
 use Rattle.plan_file.specs.Meaning.{place_of, has_part, route_of, plan_in}
 use Rattle.plan_file.proofs.SoundLaws.{Sound}
 use Rattle.plan_file.proofs.MeaningLaws.{IsPart, has-part-e, place-of, used-most, arcs-length, absent, part_of, route-word, ranked-is, plan-ranked}
@@ -38,12 +39,6 @@ get_or-patch-in a e l ys h g n x d i j =
     ∙ sym (get_or-drop a (patch a e l ys) (x - a) d)
     ∙ sym (get_or-take (e - a) (drop a (patch a e l ys)) (x - a) d (omega arith))
     ∙ ap (λ z. get_or z (x - a) d) (part_same a e l ys h g n)
-
--- the default of an entry past the end is of no account below it
-get_d_any : (l : List ℕ) (x a b : ℕ) → x < length l → get_or l x a ≡ get_or l x b
-get_d_any [] x a b h = absurd (omega arith)
-get_d_any (y ∷ l) zero a b h = refl
-get_d_any (y ∷ l) (suc x) a b h = get_d_any l x a b (omega arith)
 
 -- a list pasted whole is a patch
 pub paste-patch : (l : List ℕ) (a : ℕ) (ys : List ℕ) (n : ℕ) → length ys ≡ n → paste l a ys n ≡ patch a (a + n) l ys
@@ -71,7 +66,7 @@ slot-word w p m h =
     ∙ get_or-append-add p (replicate (w - length p) no_number) (m - length p) 0
     ∙ get_or-replicate (w - length p) (m - length p) no_number 0 (omega arith)
     ∙ sym (get_or-eq_default p no_number {n = m} k))
-    (λ k. get_or-append p (replicate (w - length p) no_number) 0 m k ∙ get_d_any p m 0 no_number k)
+    (λ k. get_or-append p (replicate (w - length p) no_number) 0 m k ∙ get_or-within p m 0 no_number k)
     (order (length p) m)
 
 -- a list that is slot after slot the routes g 0, .., g (n - 1), and then the rest
@@ -205,7 +200,7 @@ module _ (f : List ℕ) (sound : Sound f) (plan : ℕ) (some : plan ≢ 0) (w n 
         let z : r * w + m - from ≡ m % part_arcs = omega (arith, x.of_part) in
         get_or-patch-in from to s (arcs_at f i) (omega arith) in_area long (r * w + m) 0 (omega (arith, x.of_part)) (omega (arith, x.of_part))
         ∙ ap (λ j. get_or (arcs_at f i) j 0) z
-        ∙ get_d_any (arcs_at f i) (m % part_arcs) 0 no_number (omega (arith, arcs-length f i few))
+        ∙ get_or-within (arcs_at f i) (m % part_arcs) 0 no_number (omega (arith, arcs-length f i few))
         ∙ sym e)
         (order (used_at f i) (m % part_arcs))
 

@@ -1,10 +1,11 @@
 -- Fetching a plan (document 02, item 6): its answer, and the slots afterwards.
-use Rattle.std.specs.Prelude.{◌≡◌, Bool, not, ◌||◌, cond, ℕ, ◌*◌, ltb, eqb, length, drop}
+use Rattle.std.specs.Prelude.{◌≡◌, Bool, not, ◌||◌, cond, ℕ, Result, Ok, Err, ◌*◌, ltb, eqb, length, drop}
 use mathlib.Core.List.{List, ◌++◌, flat_map}
 use Rattle.lists.specs.Tests.{any}
 use Rattle.labels.specs.Chain.{slot_of}
 use Rattle.outcome.specs.declared.Told.{Told}
-use Rattle.outcome.specs.Outcome.{found, plan_file, plan_request, plan_there, buffers, beside, plain}
+use Rattle.outcome.specs.declared.Refusal.{Refusal}
+use Rattle.outcome.specs.Outcome.{found, plan_file, plan_request, plan_there, buffers, beside, plain, told_of}
 use Rattle.plan_file.specs.File.{wrong_file}
 use Rattle.plan_file.specs.Meaning.{has_plan, plan_in}
 
@@ -26,6 +27,11 @@ fetch_outcome f plan slots width =
 unfoldable pub slots_with : ℕ → List (List ℕ) → List ℕ → List ℕ
 unfolding flat_map
 slots_with width routes slots = flat_map (slot_of width) routes ++ drop (length routes * width) slots
+
+-- What is told of the number of routes, or of a refusal.
+abbrev pub told_with : Result ℕ Refusal → Told
+told_with (Ok routes) = beside found routes
+told_with (Err refusal) = told_of refusal
 
 -- "The number of routes is returned." "Each changes nothing."
 pub record Fetched (f : List ℕ) (plan : ℕ) (slots : List ℕ) (width : ℕ) (answer : Told) (slots' : List ℕ) : Type 0 where

@@ -9,9 +9,9 @@ ghost use Rattle.plan_record.specs.Record.{records, plan_at, rank_at, used_at, p
 ghost use Rattle.plan_record.specs.Record.{part_arcs, arcs_at};
 ghost use Rattle.plan_file.specs.File.{wrong_file};
 ghost use Rattle.plan_file.specs.Meaning.{plan_in};
-ghost use Rattle.plan_fetch.specs.Fetch.{too_small, slots_with, Fetched};
+ghost use Rattle.plan_fetch.specs.Fetch.{too_small, slots_with, told_with, Fetched};
 
-use outcome::Told;
+use outcome::{Outcome, Refusal, Told};
 
 // How many ranks there are so far, with record i: it counts where it is of the plan.
 fn counted(file: &[u8], i: usize, plan: u32, count: usize) -> usize
@@ -19,14 +19,11 @@ fn counted(file: &[u8], i: usize, plan: u32, count: usize) -> usize
     ensures { result ≡ cond (eqb (plan_at file.now i) plan
         && leb count (rank_at file.now i)) (rank_at file.now i + 1) count }
 {
-    if plan_record::plan(file, i) != plan {
-        return count;
+    if plan_record::plan(file, i) == plan {
+        count.max(plan_record::rank(file, i) as usize + 1)
+    } else {
+        count
     }
-    let rank = plan_record::rank(file, i) as usize;
-    if rank < count {
-        return count;
-    }
-    rank + 1
 }
 
 // How many routes the plan has: one more than its greatest rank.
@@ -34,12 +31,9 @@ fn routes(file: &[u8], plan: u32) -> usize
     requires { (wrong_file file.now ≡ false) × (plan ≢ 0) }
     ensures { result ≡ length (plan_in file.now plan) }
 {
-    let n = file.len() / plan_record::RECORD;
     let mut count = 0;
-    let mut i = 0;
-    while i < n {
+    for i in 0..file.len() / plan_record::RECORD {
         count = counted(file, i, plan, count);
-        i += 1;
     }
     count
 }
@@ -50,11 +44,10 @@ fn reaches(file: &[u8], i: usize, plan: u32, width: usize) -> bool
     ensures { result ≡ (eqb (plan_at file.now i) plan
         && ltb width (part_at file.now i * part_arcs + used_at file.now i)) }
 {
-    if plan_record::plan(file, i) != plan {
-        return false;
-    }
-    let part = plan_record::part(file, i) as usize;
-    width < part * plan_record::PART + plan_record::used(file, i) as usize
+    plan_record::plan(file, i) == plan
+        && width
+            < plan_record::part(file, i) as usize * plan_record::PART
+                + plan_record::used(file, i) as usize
 }
 
 // Whether a route of the plan is longer than `width`.
@@ -62,15 +55,7 @@ fn narrow(file: &[u8], plan: u32, width: usize) -> bool
     requires { (wrong_file file.now ≡ false) × (plan ≢ 0) }
     ensures { result ≡ any (λ p. ltb width (length p)) (plan_in file.now plan) }
 {
-    let n = file.len() / plan_record::RECORD;
-    let mut i = 0;
-    while i < n {
-        if reaches(file, i, plan, width) {
-            return true;
-        }
-        i += 1;
-    }
-    false
+    (0..file.len() / plan_record::RECORD).any(|i| reaches(file, i, plan, width))
 }
 
 // The arcs of record i in their place among slots of `width` words.
@@ -87,10 +72,8 @@ fn put_part(file: &[u8], i: usize, slots: &mut [u32], width: usize)
     let slot = plan_record::rank(file, i) as usize * width;
     let at = slot + plan_record::part(file, i) as usize * plan_record::PART;
     let used = plan_record::used(file, i) as usize;
-    let mut j = 0;
-    while j < used {
+    for j in 0..used {
         slots[at + j] = plan_record::arc(file, i, j);
-        j += 1;
     }
 }
 
@@ -102,21 +85,18 @@ fn lay(file: &[u8], plan: u32, slots: &mut [u32], width: usize, routes: usize)
     ensures { slots.new
         ≡ slots_with width (plan_in file.now plan) slots.old }
 {
-    words::fill::fill32_part(slots, 0, routes * width, labels::field::NONE);
-    let n = file.len() / plan_record::RECORD;
-    let mut i = 0;
-    while i < n {
+    words::fill::fill_part(slots, 0, routes * width, labels::field::NONE);
+    for i in 0..file.len() / plan_record::RECORD {
         if plan_record::plan(file, i) == plan {
             put_part(file, i, slots, width);
         }
-        i += 1;
     }
 }
 
-// The routes of a plan that is there, where the slots are wide enough and enough.
-fn answer(file: &[u8], plan: u32, slots: &mut [u32], width: u32) -> Told
+// The routes of a plan that is there, where the slots are wide enough and enough; their number.
+fn answer(file: &[u8], plan: u32, slots: &mut [u32], width: u32) -> Result<u32, Refusal>
     requires { (wrong_file file.now ≡ false) × (plan ≢ 0) }
-    ensures told { result
+    ensures told { told_with result
         ≡ cond (too_small (plan_in file.now plan) slots.old width)
         (plain buffers) (beside found (length (plan_in file.now plan))) }
     ensures area { slots.new
@@ -126,17 +106,31 @@ fn answer(file: &[u8], plan: u32, slots: &mut [u32], width: u32) -> Told
 {
     let words = width as usize;
     if narrow(file, plan, words) {
-        return outcome::plain(outcome::BUFFERS);
+        return Err(Refusal::plain(Outcome::Buffers));
     }
     let count = routes(file, plan);
     if slots.len() < count * words {
-        return outcome::plain(outcome::BUFFERS);
+        return Err(Refusal::plain(Outcome::Buffers));
     }
     lay(file, plan, slots, words, count);
-    Told {
-        outcome: outcome::FOUND,
-        number: count as u32,
+    Ok(count as u32)
+}
+
+// The refusals in their order; where none holds, the number of routes.
+fn fetched(file: &[u8], plan: u32, slots: &mut [u32], width: u32) -> Result<u32, Refusal>
+    ensures { Fetched file.now plan slots.old width (told_with result)
+        slots.new }
+{
+    if plan_file::wrong(file) {
+        return Err(Refusal::plain(Outcome::PlanFile));
     }
+    if plan == 0 {
+        return Err(Refusal::plain(Outcome::PlanRequest));
+    }
+    if !plan_file::has_plan(file, plan) {
+        return Err(Refusal::plain(Outcome::PlanThere));
+    }
+    answer(file, plan, slots, width)
 }
 
 // The routes of a plan in slots of a given width; their number stands beside the outcome. A file
@@ -146,14 +140,8 @@ pub fn fetch(file: &[u8], plan: u32, slots: &mut [u32], width: u32) -> Told
     ensures { Fetched file.now plan slots.old width result
         slots.new }
 {
-    if plan_file::wrong(file) {
-        return outcome::plain(outcome::PLAN_FILE);
+    match fetched(file, plan, slots, width) {
+        Ok(routes) => Outcome::Found.beside(routes),
+        Err(refusal) => refusal.into(),
     }
-    if plan == 0 {
-        return outcome::plain(outcome::PLAN_REQUEST);
-    }
-    if !plan_file::has_plan(file, plan) {
-        return outcome::plain(outcome::PLAN_THERE);
-    }
-    answer(file, plan, slots, width)
 }

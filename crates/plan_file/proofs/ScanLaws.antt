@@ -1,17 +1,14 @@
 -- A test over the first n numbers, as facts about each of them.
-use mathlib.Core.Path.{◌≡◌, refl, sym, ap, subst, ◌∙◌}
+use mathlib.Core.Path.{◌≡◌, refl, sym, subst}
 use mathlib.Core.Bool.{Bool, true, false}
 use mathlib.Core.Logic.{⊎_elim}
-use Prim.Native.Nat.{ℕ, ◌+◌, ◌-◌, ◌≤◌, ◌<◌}
+use Prim.Native.Nat.{ℕ, ◌<◌}
 use native.Mathlib.Omega.{arith}
 use lib.Dec.{T}
-use lib.ListN.{length}
-use Rattle.lists.specs.Tests.{up_from, any, keep}
+use Rattle.lists.specs.Tests.{up_from, any}
 use Rattle.lists.proofs.Cases.{cases}
 use Rattle.lists.proofs.TestLaws.{any-e, any-i}
 use Rattle.lists.proofs.MemberLaws.{up_from-e, up_from-i}
-use Rattle.lists.proofs.LoopLaws.{rest}
-use Rattle.lists.proofs.RangeLaws.{keep-first, keep-skip, keep-end}
 
 T_true : (b : Bool) → T b → b ≡ true
 T_true true t = refl
@@ -43,25 +40,3 @@ module _ (p : ℕ → Bool) (n : ℕ) where
       cc (h w.0 w.1, w.2))
       (λ z. z)
       (cases (any p (up_from 0 n)))
-
--- ---- how many of the numbers from i up to n pass: a loop that counts
-
-module _ (p : ℕ → Bool) (n : ℕ) where
-  pub from-none : 0 + length (keep p (rest n 0)) ≡ length (keep p (up_from 0 n))
-  from-none =
-      let e : n - 0 ≡ n = omega arith in
-      rw e (omega arith)
-
-  pub count-free : (i : ℕ) → i < n → p i ≡ true → length (keep p (rest n i)) ≡ length (keep p (rest n (i + 1))) + 1
-  count-free i h e = ap length (keep-first p i n h e) ∙ omega arith
-
-  pub count-used : (i : ℕ) → i < n → p i ≡ false → length (keep p (rest n i)) ≡ length (keep p (rest n (i + 1)))
-  count-used i h e =
-      ap length
-      (keep-skip p i (i + 1) n (omega arith) (omega arith)
-      (λ j a b.
-      let k : j ≡ i = omega arith in
-      ap p k ∙ e))
-
-  pub count_none : (i : ℕ) → n ≤ i → length (keep p (rest n i)) ≡ 0
-  count_none i h = ap length (keep-end p i n h)

@@ -1,6 +1,6 @@
 -- 16 of document 02, item 6: what is wrong with a file of plans.
 use Rattle.std.specs.Prelude.{Bool, not, ◌&&◌, ◌||◌, cond, List, ℕ, ◌+◌, ◌%◌, eqb, length}
-use Rattle.lists.specs.Tests.{up_from, every, any}
+use Rattle.lists.specs.Tests.{up_from, any}
 use Rattle.plan_record.specs.Record.{record_bytes, records, plan_at, rank_at, used_at, part_at, part_arcs, formed}
 
 -- Record i is this part of this rank of the plan.

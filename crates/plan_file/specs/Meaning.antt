@@ -1,5 +1,5 @@
 -- What a file of plans means: the routes of each plan, by rank.
-use Rattle.std.specs.Prelude.{Bool, cond, List, [], ◌∷◌, ◌++◌, ℕ, zero, suc, ◌+◌, ltb, eqb, length}
+use Rattle.std.specs.Prelude.{Bool, cond, List, [], ◌∷◌, ◌++◌, ℕ, zero, suc, ◌+◌, ltb, eqb}
 use Rattle.lists.specs.Tests.{up_from, any, keep}
 use Rattle.lists.specs.Index.{first_at}
 use Rattle.net.specs.Limits.{most_routes}

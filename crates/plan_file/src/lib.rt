@@ -19,15 +19,10 @@ fn after(rank: u8, part: u16, earlier: u8, before: u16, used: u8) -> bool
         && (eqb (before + 1) part && eqb used part_arcs)) }
 {
     if part == 0 {
-        return earlier as u32 + 1 == rank as u32;
+        earlier as u32 + 1 == rank as u32
+    } else {
+        earlier == rank && before as u32 + 1 == part as u32 && used as usize == plan_record::PART
     }
-    if earlier != rank {
-        return false;
-    }
-    if before as u32 + 1 != part as u32 {
-        return false;
-    }
-    used as usize == plan_record::PART
 }
 
 // Whether record i comes right after record j.
@@ -35,16 +30,14 @@ fn follows(file: &[u8], i: usize, j: usize) -> bool
     requires { (i < records file.now) × (j < records file.now) }
     ensures { result ≡ follows file.now i j }
 {
-    if plan_record::plan(file, j) != plan_record::plan(file, i) {
-        return false;
-    }
-    after(
-        plan_record::rank(file, i),
-        plan_record::part(file, i),
-        plan_record::rank(file, j),
-        plan_record::part(file, j),
-        plan_record::used(file, j),
-    )
+    plan_record::plan(file, j) == plan_record::plan(file, i)
+        && after(
+            plan_record::rank(file, i),
+            plan_record::part(file, i),
+            plan_record::rank(file, j),
+            plan_record::part(file, j),
+            plan_record::used(file, j),
+        )
 }
 
 // Whether record k is this part of this rank of the plan.
@@ -52,13 +45,9 @@ fn is_part(file: &[u8], plan: u32, rank: u8, part: u16, k: usize) -> bool
     requires { k < records file.now }
     ensures { result ≡ is_part file.now plan rank part k }
 {
-    if plan_record::plan(file, k) != plan {
-        return false;
-    }
-    if plan_record::rank(file, k) != rank {
-        return false;
-    }
-    plan_record::part(file, k) == part
+    plan_record::plan(file, k) == plan
+        && plan_record::rank(file, k) == rank
+        && plan_record::part(file, k) == part
 }
 
 // Whether a record before it is the same part.
@@ -69,14 +58,7 @@ fn double(file: &[u8], i: usize) -> bool
     let plan = plan_record::plan(file, i);
     let rank = plan_record::rank(file, i);
     let part = plan_record::part(file, i);
-    let mut k = 0;
-    while k < i {
-        if is_part(file, plan, rank, part, k) {
-            return true;
-        }
-        k += 1;
-    }
-    false
+    (0..i).any(|k| is_part(file, plan, rank, part, k))
 }
 
 // Whether record i comes right after some record.
@@ -85,15 +67,7 @@ fn led(file: &[u8], i: usize) -> bool
     ensures { result ≡ any (follows file.now i)
         (up_from 0 (records file.now)) }
 {
-    let n = file.len() / RECORD;
-    let mut j = 0;
-    while j < n {
-        if follows(file, i, j) {
-            return true;
-        }
-        j += 1;
-    }
-    false
+    (0..file.len() / RECORD).any(|j| follows(file, i, j))
 }
 
 // Whether record i is the first part of the first rank.
@@ -102,10 +76,7 @@ fn first(file: &[u8], i: usize) -> bool
     ensures { result
         ≡ eqb (rank_at file.now i) 0 && eqb (part_at file.now i) 0 }
 {
-    if plan_record::rank(file, i) != 0 {
-        return false;
-    }
-    plan_record::part(file, i) == 0
+    plan_record::rank(file, i) == 0 && plan_record::part(file, i) == 0
 }
 
 // Whether record i comes right after the record just before it.
@@ -113,10 +84,7 @@ fn next(file: &[u8], i: usize) -> bool
     requires { i < records file.now }
     ensures { result ≡ true → (0 < i) × (follows file.now i (i - 1) ≡ true) }
 {
-    if i == 0 {
-        return false;
-    }
-    follows(file, i, i - 1)
+    i != 0 && follows(file, i, i - 1)
 }
 
 // Whether nothing stands in the file that record i comes after. The record just before it is
@@ -125,13 +93,7 @@ fn gap(file: &[u8], i: usize) -> bool
     requires { i < records file.now }
     ensures { result ≡ has_gap file.now i }
 {
-    if first(file, i) {
-        return false;
-    }
-    if next(file, i) {
-        return false;
-    }
-    !led(file, i)
+    !(first(file, i) || next(file, i) || led(file, i))
 }
 
 // Whether record k is none of the plan of record i, or a lower part of it.
@@ -140,18 +102,10 @@ fn below(file: &[u8], i: usize, k: usize) -> bool
     ensures { result ≡ true → plan_at file.now k ≡ plan_at file.now i
         → Lower file.now k i }
 {
-    if plan_record::plan(file, k) != plan_record::plan(file, i) {
-        return true;
-    }
-    let a = plan_record::rank(file, k);
-    let b = plan_record::rank(file, i);
-    if a < b {
-        return true;
-    }
-    if b < a {
-        return false;
-    }
-    plan_record::part(file, k) < plan_record::part(file, i)
+    plan_record::plan(file, k) != plan_record::plan(file, i)
+        || plan_record::rank(file, k) < plan_record::rank(file, i)
+        || (plan_record::rank(file, k) == plan_record::rank(file, i)
+            && plan_record::part(file, k) < plan_record::part(file, i))
 }
 
 // Whether record i has the highest part so far of its plan, by a look at each record before it.
@@ -159,14 +113,7 @@ fn all_below(file: &[u8], i: usize) -> bool
     requires { i < records file.now }
     ensures { result ≡ true → Highest file.now i }
 {
-    let mut k = 0;
-    while k < i {
-        if !below(file, i, k) {
-            return false;
-        }
-        k += 1;
-    }
-    true
+    (0..i).all(|k| below(file, i, k))
 }
 
 // Whether record i has the highest part so far of its plan: where its plan number is above all so
@@ -176,18 +123,7 @@ fn highest(file: &[u8], i: usize, top: u32, run: bool) -> bool
     ensures { result ≡ true → Highest file.now i }
 {
     let plan = plan_record::plan(file, i);
-    if plan == 0 {
-        return false;
-    }
-    if top < plan {
-        return true;
-    }
-    if run {
-        if next(file, i) {
-            return true;
-        }
-    }
-    all_below(file, i)
+    plan != 0 && (top < plan || (run && next(file, i)) || all_below(file, i))
 }
 
 // Whether record i is wrong, where it may be known to have the highest part so far of its plan.
@@ -195,27 +131,8 @@ fn wrong_at(file: &[u8], i: usize, highest: bool) -> bool
     requires { (i < records file.now) × (highest ≡ true → Highest file.now i) }
     ensures { result ≡ wrong_at file.now i }
 {
-    if !plan_record::formed(file, i) {
-        return true;
-    }
-    if plan_record::plan(file, i) == 0 {
-        return false;
-    }
-    if !highest {
-        if double(file, i) {
-            return true;
-        }
-    }
-    gap(file, i)
-}
-
-fn greater(a: u32, b: u32) -> u32
-    ensures { (a ≤ result) × (b ≤ result) }
-{
-    if a < b {
-        return b;
-    }
-    a
+    !plan_record::formed(file, i)
+        || (plan_record::plan(file, i) != 0 && ((!highest && double(file, i)) || gap(file, i)))
 }
 
 // Whether one of the records is wrong.
@@ -223,17 +140,14 @@ fn wrong_records(file: &[u8]) -> bool
     ensures { result ≡ any (wrong_at file.now)
         (up_from 0 (records file.now)) }
 {
-    let n = file.len() / RECORD;
-    let mut top = 0u32;
+    let mut top = 0;
     let mut run = false;
-    let mut i = 0;
-    while i < n {
+    for i in 0..file.len() / RECORD {
         run = highest(file, i, top, run);
         if wrong_at(file, i, run) {
             return true;
         }
-        top = greater(top, plan_record::plan(file, i));
-        i += 1;
+        top = top.max(plan_record::plan(file, i));
     }
     false
 }
@@ -242,39 +156,21 @@ fn wrong_records(file: &[u8]) -> bool
 pub fn wrong(file: &[u8]) -> bool
     ensures { result ≡ wrong_file file.now }
 {
-    if file.len() % RECORD != 0 {
-        return true;
-    }
-    wrong_records(file)
+    file.len() % RECORD != 0 || wrong_records(file)
 }
 
 // Whether a record belongs to the plan.
 pub fn has_plan(file: &[u8], plan: u32) -> bool
     ensures { result ≡ has_plan file.now plan }
 {
-    let n = file.len() / RECORD;
-    let mut i = 0;
-    while i < n {
-        if plan_record::plan(file, i) == plan {
-            return true;
-        }
-        i += 1;
-    }
-    false
+    (0..file.len() / RECORD).any(|i| plan_record::plan(file, i) == plan)
 }
 
 // How many records are free.
 pub fn free_count(file: &[u8]) -> usize
     ensures { result ≡ length (free_in file.now) }
 {
-    let n = file.len() / RECORD;
-    let mut count = 0;
-    let mut i = 0;
-    while i < n {
-        if plan_record::plan(file, i) == 0 {
-            count += 1;
-        }
-        i += 1;
-    }
-    count
+    (0..file.len() / RECORD)
+        .filter(|&i| plan_record::plan(file, i) == 0)
+        .count()
 }

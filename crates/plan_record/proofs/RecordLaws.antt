@@ -14,7 +14,6 @@ use Rattle.lists.specs.Tests.{up_from, every}
 use Rattle.lists.specs.Index.{tab}
 use Rattle.lists.proofs.Cases.{order}
 use Rattle.lists.proofs.IndexLaws.{length-tab, get_or-tab, tab-cong}
-use Rattle.lists.proofs.LoopLaws.{every-at}
 use Rattle.words.specs.Number.{num, bytes_of}
 use Rattle.words.specs.Part.{slot}
 use Rattle.words.proofs.BytesLaws.{length-bytes_of, num-bytes}
@@ -46,15 +45,6 @@ module _ (f : List ℕ) (i : ℕ) where
   byte-in : (o : ℕ) → o < record_bytes → get_or f (i * record_bytes + o) 0 ≡ get_or (slot record_bytes i f) o 0
   unfolding slot
   byte-in o h = sym (get_or-take record_bytes (drop (i * record_bytes) f) o 0 h ∙ get_or-drop (i * record_bytes) f o 0)
-
-  -- whether the record is blank, byte by byte
-  pub blank-bytes : i < records f → every (λ k. eqb (get_or f (i * record_bytes + k) 0) 0) (up_from 0 record_bytes) ≡ blank f i
-  unfolding blank
-  blank-bytes h =
-      let n = length-slot f i i h h in
-      let z : (j : ℕ) → 0 + j ≡ j = λ j. omega arith in
-      ap (λ k. every (λ j. eqb (get_or f (i * record_bytes + j) 0) 0) (up_from 0 k)) (sym n)
-      ∙ every-at (λ b. eqb b 0) (λ k. eqb (get_or f (i * record_bytes + k) 0) 0) 0 (slot record_bytes i f) 0 (λ j b. ap (λ x. eqb (get_or f (i * record_bytes + x) 0) 0) (z j) ∙ ap (λ x. eqb x 0) (byte-in j (omega arith)))
 
 module _ (f g : List ℕ) (i j : ℕ) (e : slot record_bytes i f ≡ slot record_bytes j g) where
   num_of : (k o : ℕ) → o + k ≤ record_bytes → num k f (i * record_bytes + o) ≡ num k g (j * record_bytes + o)

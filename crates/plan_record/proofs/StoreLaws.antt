@@ -1,13 +1,13 @@
 -- What storing leaves. The fields before the arc numbers are four stores, each right behind the one before; the arc numbers are six more, those of the part and then
--- `no_number`; the two rows of bytes one behind the other are the record. A copy byte by byte reads each byte before it is written, also where a record is copied to itself.
+-- `no_number`; the two rows of bytes one behind the other are the record. A copy puts the bytes of one record over those of another.
 use mathlib.Core.Path.{◌≡◌, refl, sym, ap, ◌∙◌}
 use mathlib.Core.List.{List, [], ◌∷◌, ◌++◌, flat_map, append_assoc, append-nil}
-use mathlib.Core.Logic.{inl, inr, ⊎_elim}
+use mathlib.Core.Logic.{⊎_elim}
 use Prim.Native.Nat.{ℕ, zero, suc, ◌+◌, ◌-◌, ◌*◌, ◌≤◌, ◌<◌}
 use native.Mathlib.Numerals.{add-one}
 use native.Mathlib.Omega.{arith}
 use lib.ListN.{length, get_or, set, take, drop, replicate, length-append, length-drop, length-replicate, get_or-replicate, get_or-append, get_or-eq_default}
-use lib.Seq.{length-take-le, take-suc, take_all, get_or-append-add, get_or-take, get_or-drop}
+use lib.Seq.{paste, length-take-le, take-suc, take_all, get_or-append-add}
 use Rattle.words.specs.Number.{put, bytes_of}
 use Rattle.words.specs.Part.{patch, slot}
 use Rattle.words.proofs.BytesLaws.{length-bytes_of}
@@ -15,7 +15,7 @@ use Rattle.words.proofs.PartLaws.{length-patch}
 use Rattle.lists.proofs.Cases.{order}
 use Rattle.labels.specs.Field.{no_number}
 use Rattle.plan_record.specs.Record.{Row, record_bytes, records, part_arcs, record_of, with_record}
-use Rattle.plan_record.proofs.PatchLaws.{patch-none, put-patch, set-patch, patch-next, get_or-patch-other}
+use Rattle.plan_record.proofs.PatchLaws.{patch-none, put-patch, set-patch, patch-next}
 
 -- ---- the fields before the arc numbers
 
@@ -150,50 +150,17 @@ head-and-arcs f i x h =
     let whole : ys ++ zs ≡ record_of x = simp append_assoc in
     patch-next a (a + 8) f ys (omega arith) (omega arith) (omega arith) (a + record_bytes) zs (omega arith) ∙ ap (patch a (a + record_bytes) f) whole
 
--- ---- a record copied to another, byte by byte
-
--- the file with the first k bytes of record j in record i
-abbrev pub copied_to : List ℕ → ℕ → ℕ → ℕ → List ℕ
-copied_to f i j k = patch (i * record_bytes) (i * record_bytes + k) f (take k (slot record_bytes j f))
+-- ---- a record copied to another
 
 module _ (f : List ℕ) (i j : ℕ) (h : i < records f) (g : j < records f) where
   pub length-slot : length (slot record_bytes j f) ≡ record_bytes
   unfolding slot
   length-slot = length-take-le record_bytes (drop (j * record_bytes) f) (omega (arith, room f j g, length-drop (j * record_bytes) f))
 
-  length_some : (k : ℕ) → k ≤ record_bytes → length (take k (slot record_bytes j f)) ≡ k
-  length_some k b = length-take-le k (slot record_bytes j f) (omega (arith, length-slot))
-
-  length-copied_to : (k : ℕ) → k ≤ record_bytes → length (copied_to f i j k) ≡ length f
-  length-copied_to k b =
-      length-patch (i * record_bytes) (i * record_bytes + k) f (take k (slot record_bytes j f)) (omega arith) (omega (arith, room f i h)) (omega (arith, length_some k b))
-
-  pub copied_none : copied_to f i j 0 ≡ f
-  copied_none =
-      let z : i * record_bytes + 0 ≡ i * record_bytes = omega arith in
-      ap (λ x. patch (i * record_bytes) x f []) z ∙ patch-none (i * record_bytes) f
-
-  -- the byte that a turn reads is as it was
-  copied-reads : (k : ℕ) → k < record_bytes → get_or (copied_to f i j k) (j * record_bytes + k) 0 ≡ get_or (slot record_bytes j f) k 0
-  unfolding slot
-  copied-reads k b =
-      get_or-patch-other (i * record_bytes) (i * record_bytes + k) f (take k (slot record_bytes j f)) (omega arith) (omega (arith, room f i h))
-      (omega (arith, length_some k (omega arith))) (j * record_bytes + k)
-      (⊎_elim (λ w. inr (omega arith)) (λ w. inl (omega arith)) (order i j))
-      ∙ sym (get_or-take record_bytes (drop (j * record_bytes) f) k 0 b ∙ get_or-drop (j * record_bytes) f k 0)
-
-  pub copied_more : (k : ℕ) → k < record_bytes → set (copied_to f i j k) (i * record_bytes + k) (get_or (copied_to f i j k) (j * record_bytes + k) 0) ≡ copied_to f i j (k + 1)
-  copied_more k b =
-      let s = slot record_bytes j f in
-      let e = i * record_bytes + k in
-      let z : e + 1 ≡ i * record_bytes + (k + 1) = omega arith in
-      let next : take (k + 1) s ≡ take k s ++ (get_or s k 0 ∷ []) = ap (λ n. take n s) (add-one k) ∙ take-suc s k 0 (omega (arith, length-slot)) in
-      ap (set (copied_to f i j k) e) (copied-reads k b) ∙ set-patch (copied_to f i j k) e (get_or s k 0) (omega (arith, room f i h, length-copied_to k (omega arith)))
-      ∙ ap (λ y. patch e y (copied_to f i j k) (get_or s k 0 ∷ [])) z
-      ∙ patch-next (i * record_bytes) e f (take k s) (omega arith) (omega (arith, room f i h)) (omega (arith, length_some k (omega arith))) (i * record_bytes + (k + 1)) (get_or s k 0 ∷ [])
-      (omega arith)
-      ∙ ap (patch (i * record_bytes) (i * record_bytes + (k + 1)) f) (sym next)
-
-  pub copied_all : (k : ℕ) → k ≡ record_bytes → copied_to f i j k ≡ with_record f i (slot record_bytes j f)
-  unfolding with_record
-  copied_all k e = ap (copied_to f i j) e ∙ ap (patch (i * record_bytes) (i * record_bytes + record_bytes) f) (take_all record_bytes (slot record_bytes j f) (omega (arith, length-slot)))
+-- the bytes of record j over those of record i
+pub copied : (f : List ℕ) (i j : ℕ) → paste f (i * record_bytes) (drop (j * record_bytes) f) (j * record_bytes + record_bytes - j * record_bytes) ≡ with_record f i (slot record_bytes j f)
+unfolding with_record patch slot
+copied f i j =
+    let from = drop (j * record_bytes) f in
+    let n : j * record_bytes + record_bytes - j * record_bytes ≡ record_bytes = omega arith in
+    ap (paste f (i * record_bytes) from) n ∙ append_assoc (take (i * record_bytes) f) (take record_bytes from) (drop (i * record_bytes + record_bytes) f)

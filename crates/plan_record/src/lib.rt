@@ -69,14 +69,8 @@ fn blank(file: &[u8], i: usize) -> bool
     requires { i < records file.now }
     ensures { result ≡ blank file.now i }
 {
-    let mut k = 0;
-    while k < RECORD {
-        if file[i * RECORD + k] != 0 {
-            return false;
-        }
-        k += 1;
-    }
-    true
+    let at = i * RECORD;
+    file[at..at + RECORD].iter().all(|b| *b == 0)
 }
 
 // Whether the j-th arc number is one of an arc where it is used, and none where it is not.
@@ -86,23 +80,17 @@ fn formed_arc(file: &[u8], i: usize, j: usize) -> bool
 {
     let a = arc(file, i, j);
     if j < used(file, i) as usize {
-        return (a as usize) < table::fault::MOST_ARCS;
+        (a as usize) < table::fault::MOST_ARCS
+    } else {
+        a == labels::field::NONE
     }
-    a == labels::field::NONE
 }
 
 fn formed_arcs(file: &[u8], i: usize) -> bool
     requires { i < records file.now }
     ensures { result ≡ every (formed_arc file.now i) (up_from 0 part_arcs) }
 {
-    let mut k = 0;
-    while k < PART {
-        if !formed_arc(file, i, k) {
-            return false;
-        }
-        k += 1;
-    }
-    true
+    (0..PART).all(|j| formed_arc(file, i, j))
 }
 
 fn formed_use(file: &[u8], i: usize) -> bool
@@ -110,16 +98,7 @@ fn formed_use(file: &[u8], i: usize) -> bool
     ensures { result ≡ formed_use file.now i }
 {
     let n = used(file, i) as usize;
-    if summary::MOST_ROUTES <= rank(file, i) as usize {
-        return false;
-    }
-    if n < 1 {
-        return false;
-    }
-    if PART < n {
-        return false;
-    }
-    formed_arcs(file, i)
+    (rank(file, i) as usize) < summary::MOST_ROUTES && 1 <= n && n <= PART && formed_arcs(file, i)
 }
 
 // Whether record i is all zero where it is free, and has each field in its form where it is not.
@@ -128,9 +107,10 @@ pub fn formed(file: &[u8], i: usize) -> bool
     ensures { result ≡ formed file.now i }
 {
     if plan(file, i) == 0 {
-        return blank(file, i);
+        blank(file, i)
+    } else {
+        formed_use(file, i)
     }
-    formed_use(file, i)
 }
 
 // The fields of record i before its arc numbers.
@@ -151,9 +131,10 @@ fn number(arcs: &[u32], j: usize) -> u32
     ensures { result ≡ get_or arcs.now j no_number }
 {
     if j < arcs.len() {
-        return arcs[j];
+        arcs[j]
+    } else {
+        labels::field::NONE
     }
-    labels::field::NONE
 }
 
 // The arc numbers of record i: those used, and then none.
@@ -164,10 +145,8 @@ fn put_arcs(file: &mut [u8], i: usize, arcs: &[u32])
         (flat_map (bytes_of 4) (arcs.now
         ++ replicate (part_arcs - length arcs.now) no_number)) }
 {
-    let mut j = 0;
-    while j < PART {
+    for j in 0..PART {
         words::number::write32(file, i * RECORD + (ARCS + 4 * j), number(arcs, j));
-        j += 1;
     }
 }
 
@@ -186,7 +165,7 @@ pub fn clear(file: &mut [u8], i: usize)
     requires { i < records file.old }
     ensures { file.new ≡ with_record file.old i free }
 {
-    words::fill::fill8_part(file, i * RECORD, i * RECORD + RECORD, 0);
+    words::fill::fill_part(file, i * RECORD, i * RECORD + RECORD, 0);
 }
 
 // Record i made as record j is.
@@ -195,9 +174,6 @@ pub fn copy(file: &mut [u8], i: usize, j: usize)
     ensures { file.new
         ≡ with_record file.old i (slot record_bytes j file.old) }
 {
-    let mut k = 0;
-    while k < RECORD {
-        file[i * RECORD + k] = file[j * RECORD + k];
-        k += 1;
-    }
+    let from = j * RECORD;
+    file.copy_within(from..from + RECORD, i * RECORD);
 }

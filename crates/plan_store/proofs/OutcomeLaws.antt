@@ -7,7 +7,7 @@ use Prim.Native.Nat.{ℕ, ◌*◌, ◌≤◌, ◌<◌}
 use native.Mathlib.Omega.{arith}
 use lib.Dec.{ltb, leb, eqb}
 use lib.ListN.{length}
-use borrow.Author.Tests.{lt-ltb, le-ltb, eq-eqb, ne_eqb, ltb-false, leb-true, eqb-true, eqb-false, not-false}
+use borrow.Author.Tests.{lt-ltb, le-ltb, eq-eqb, ltb-false, leb-true, eqb-true, eqb-false, not-false}
 use Rattle.lists.specs.Tests.{up_from, any}
 use Rattle.words.specs.Part.{slot}
 use Rattle.net.specs.Limits.{most_routes}
@@ -102,8 +102,5 @@ module _ (f : List ℕ) (plan : ℕ) (slots : List ℕ) (routes width : ℕ) whe
   -- ---- the call as a whole
 
   module _ (answer : Told) (f' : List ℕ) where
-    pub stored-not : told ≢ found → answer ≡ plain told → f' ≡ f → Stored f plan slots routes width answer f'
-    stored-not ne a e = record { told = a; file = rw (ne_eqb told found ne) e }
-
     pub stored-so : told ≡ found → answer ≡ plain found → f' ≡ stored_in f plan (routes_in slots routes width) → Stored f plan slots routes width answer f'
     stored-so e a g = record { told = a ∙ ap plain (sym e); file = rw (eq-eqb told found e) g }

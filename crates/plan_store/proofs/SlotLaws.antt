@@ -1,26 +1,27 @@
--- Slots and the routes in them. A loop over the words of a list tests an index at a time (`every-from`). In a slot the arcs stand first, so that a route is a front part;
--- and slot r of `routes` slots lies within them.
-use mathlib.Core.Path.{◌≡◌, ap, ◌∙◌}
-use mathlib.Core.Bool.{Bool, true, false, not}
+-- Slots and the routes in them. In a slot the arcs stand first, so that a route is a front part; and slot r of `routes` slots lies within them.
+use mathlib.Core.Path.{◌≡◌, ◌∙◌}
+use mathlib.Core.Bool.{Bool, true, false, not, cond}
 use mathlib.Core.List.{List}
 use Prim.Native.Nat.{ℕ, suc, ◌+◌, ◌-◌, ◌*◌, ◌≤◌, ◌<◌}
 use native.Mathlib.Nat.{mul-le-mul_right}
 use native.Mathlib.Omega.{arith}
-use mathlib.Core.Logic.{◌≢◌}
+use mathlib.Core.Logic.{◌≢◌, ⊎_elim}
 use lib.Dec.{ltb, eqb}
 use lib.ListN.{length, get_or, take, drop, length-drop}
 use lib.Seq.{length-take-le, take_all}
-use borrow.Author.Tests.{le-ltb, lt-ltb, le-leb, lt-leb, eq-eqb, ne_eqb}
-use Rattle.lists.specs.Tests.{up_from, every, any}
-use Rattle.lists.proofs.IndexLaws.{first-le}
-use Rattle.lists.proofs.LoopLaws.{rest, from_first, every-at}
+use borrow.Author.Tests.{le-ltb, lt-ltb, eq-eqb, ne_eqb}
+use Rattle.lists.specs.Tests.{every}
+use Rattle.std.proofs.Common.{Some, None}
+use Rattle.std.specs.List.{position_or_len}
+use Rattle.std.specs.Option.{unwrap_or}
+use Rattle.std.proofs.lemmas.List.Sums.{position_or_len_is}
+use Rattle.lists.specs.Index.{first_at}
+use Rattle.lists.proofs.Cases.{order}
+use Rattle.lists.proofs.IndexLaws.{first-le, first_below, first-at}
 use Rattle.words.specs.Part.{slot}
 use Rattle.labels.specs.Field.{no_number}
-use Rattle.net.specs.Limits.{most_routes, most_arcs}
-use Rattle.plan_store.specs.Slots.{most_width, arcs_in, route_in, wrong_slot, wrong_request}
-
-pub every-from : (f : ℕ → Bool) (l : List ℕ) → every (λ i. f (get_or l i 0)) (rest (length l) 0) ≡ every f l
-every-from f l = from_first (every (λ i. f (get_or l i 0))) (length l) ∙ every-at f (λ i. f (get_or l i 0)) 0 l 0 (λ j h. ap (λ k. f (get_or l k 0)) (omega arith))
+use Rattle.net.specs.Limits.{most_arcs}
+use Rattle.plan_store.specs.Slots.{arcs_in, route_in, wrong_slot}
 
 -- a part that goes to the end
 pub from-there : (l : List ℕ) (n : ℕ) → take (length l - n) (drop n l) ≡ drop n l
@@ -32,6 +33,10 @@ arcs-le words = omega (arith, first-le (λ m. eqb (get_or words m 0) no_number) 
 
 pub length-route_in : (words : List ℕ) → length (route_in words) ≡ arcs_in words
 length-route_in words = length-take-le (arcs_in words) words (arcs-le words)
+
+-- the route in slot r
+abbrev pub route_at : List ℕ → ℕ → ℕ → List ℕ
+route_at slots width r = route_in (slot width r slots)
 
 module _ (slots : List ℕ) (routes width : ℕ) (h : length slots ≡ routes * width) (r : ℕ) (b : r < routes) where
   pub slot-within : r * width + width ≤ length slots
@@ -57,29 +62,18 @@ module _ (words : List ℕ) where
   unfolding wrong_slot
   wrong-rest ne e = rw (ne_eqb (arcs_in words) 0 ne, e)
 
-module _ (plan : ℕ) (slots : List ℕ) (routes width : ℕ) where
-  pub wrong-plan : plan ≡ 0 → wrong_request plan slots routes width ≡ true
-  unfolding wrong_request
-  wrong-plan e = rw (eq-eqb plan 0 e)
+-- ---- the first place at which a test passes, or the end
 
-  pub wrong-few : plan ≢ 0 → routes < 1 → wrong_request plan slots routes width ≡ true
-  unfolding wrong_request
-  wrong-few ne h = rw (ne_eqb plan 0 ne, lt-leb 1 routes h)
+position-first : (p : ℕ → Bool) (l : List ℕ) → position_or_len p l ≡ first_at (λ m. p (get_or l m 0)) (length l) 0
+position-first p l =
+    let q = λ (m : ℕ). p (get_or l m 0) in
+    let n = length l in
+    position_or_len_is p l (first_at q n 0) 0 (omega (arith, first-le q n 0)) (λ k h. first_below q n 0 k (omega arith) h) (λ h. first-at q n 0 (omega arith))
 
-  pub wrong-many : plan ≢ 0 → 1 ≤ routes → most_routes < routes → wrong_request plan slots routes width ≡ true
-  unfolding wrong_request
-  wrong-many ne h k = rw (ne_eqb plan 0 ne, le-leb 1 routes h, lt-leb routes most_routes k)
+or-end : (x n : ℕ) → x ≤ n → unwrap_or (cond (ltb x n) (Some x) None) n ≡ x
+or-end x n h = ⊎_elim (λ e. rw (le-ltb x n e) (omega arith)) (λ b. rw (lt-ltb x n b)) (order n x)
 
-  module _ (ne : plan ≢ 0) (h : 1 ≤ routes) (k : routes ≤ most_routes) where
-    pub wrong-wide : most_width < width → wrong_request plan slots routes width ≡ true
-    unfolding wrong_request
-    wrong-wide m = rw (ne_eqb plan 0 ne, le-leb 1 routes h, le-leb routes most_routes k, lt-ltb most_width width m)
-
-    pub wrong_size : width ≤ most_width → length slots ≢ routes * width → wrong_request plan slots routes width ≡ true
-    unfolding wrong_request
-    wrong_size m d = rw (ne_eqb plan 0 ne, le-leb 1 routes h, le-leb routes most_routes k, le-ltb most_width width m, ne_eqb (length slots) (routes * width) d)
-
-    pub wrong-slots : width ≤ most_width → length slots ≡ routes * width
-        → wrong_request plan slots routes width ≡ any (λ r. wrong_slot (slot width r slots)) (up_from 0 routes)
-    unfolding wrong_request
-    wrong-slots m e = rw (ne_eqb plan 0 ne, le-leb 1 routes h, le-leb routes most_routes k, le-ltb most_width width m, eq-eqb (length slots) (routes * width) e)
+pub place-or-end : (p : ℕ → Bool) (l : List ℕ)
+    → unwrap_or (cond (ltb (position_or_len p l) (length l)) (Some (position_or_len p l)) None) (length l) ≡ first_at (λ m. p (get_or l m 0)) (length l) 0
+place-or-end p l =
+    or-end (position_or_len p l) (length l) (omega (arith, position-first p l, first-le (λ m. p (get_or l m 0)) (length l) 0)) ∙ position-first p l

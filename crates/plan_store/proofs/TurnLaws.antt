@@ -1,17 +1,17 @@
 -- The two loops that put parts, turn by turn. What is placed so far, and then what is left, makes the whole; there is room for what is left; and the file keeps its length.
 use mathlib.Core.Path.{◌≡◌, refl, sym, ap, ◌∙◌}
 use mathlib.Core.List.{List, ◌∷◌, ◌++◌}
-use Prim.Native.Nat.{ℕ, ◌+◌, ◌-◌, ◌≤◌, ◌<◌}
+use Prim.Native.Nat.{ℕ, ◌+◌, ◌≤◌, ◌<◌}
 use native.Mathlib.Nat.{sub-zero}
 use native.Mathlib.Omega.{arith}
 use lib.ListN.{length, take, drop, length-append, length-drop}
 use lib.Seq.{drop-drop}
 use Rattle.lists.proofs.LoopLaws.{gives, gives-done, gives-step}
-use Rattle.words.specs.Part.{slot}
 use Rattle.plan_record.specs.Record.{part_arcs, Row}
-use Rattle.plan_store.specs.Slots.{route_in, routes_in}
+use Rattle.plan_store.specs.Slots.{routes_in}
 use Rattle.plan_store.specs.Store.{parts_of}
 use Rattle.plan_store.specs.Placing.{parts_left, Placing, room, placed_next, placed_on}
+use Rattle.plan_store.proofs.SlotLaws.{route_at}
 use Rattle.plan_store.proofs.PartLaws.{left-done, left_step, take_part, fit-from}
 use Rattle.plan_store.proofs.PlaceLaws.{part-turn, parts-turn}
 
@@ -50,11 +50,8 @@ module _ (plan rank : ℕ) (route : List ℕ) (s : Placing) where
 -- ---- the parts of the routes
 
 module _ (plan : ℕ) (slots : List ℕ) (routes width : ℕ) (s : Placing) where
-  abbrev pub route_at : ℕ → List ℕ
-  route_at r = route_in (slot width r slots)
-
   abbrev pub rows : ℕ → List Row
-  rows r = parts_of plan r (gives route_at r routes)
+  rows r = parts_of plan r (gives (route_at slots width) r routes)
 
   -- with the routes before rank r placed: t
   abbrev pub Stored-to : Placing → ℕ → Type 0
@@ -68,19 +65,19 @@ module _ (plan : ℕ) (slots : List ℕ) (routes width : ℕ) (s : Placing) wher
   none-stored h = (ap (placed_on s) rows-first, omega (arith, ap length rows-first), refl)
 
   module _ (t : Placing) (r : ℕ) (g : Stored-to t r) where
-    split-route : r < routes → rows r ≡ parts_left plan r 0 (route_at r) ++ rows (r + 1)
+    split-route : r < routes → rows r ≡ parts_left plan r 0 (route_at slots width r) ++ rows (r + 1)
     unfolding parts_of
-    split-route h = ap (parts_of plan r) (gives-step route_at r routes h)
+    split-route h = ap (parts_of plan r) (gives-step (route_at slots width) r routes h)
 
-    pub room-route : r < routes → length (parts_left plan r 0 (route_at r)) ≤ room t
-    room-route h = omega (arith, g.1, ap length (split-route h), length-append (parts_left plan r 0 (route_at r)) (rows (r + 1)))
+    pub room-route : r < routes → length (parts_left plan r 0 (route_at slots width r)) ≤ room t
+    room-route h = omega (arith, g.1, ap length (split-route h), length-append (parts_left plan r 0 (route_at slots width r)) (rows (r + 1)))
 
-    pub one-stored : (u : Placing) → r < routes → u ≡ placed_on t (parts_left plan r 0 (route_at r)) → Stored-to u (r + 1)
+    pub one-stored : (u : Placing) → r < routes → u ≡ placed_on t (parts_left plan r 0 (route_at slots width r)) → Stored-to u (r + 1)
     one-stored u h e =
-        let xs = parts_left plan r 0 (route_at r) in
-        let w = parts-turn plan t u xs (rows (r + 1)) e (fit-from plan r (length (route_at r)) 0 (route_at r)) (omega (arith, g.1, ap length (split-route h))) in
+        let xs = parts_left plan r 0 (route_at slots width r) in
+        let w = parts-turn plan t u xs (rows (r + 1)) e (fit-from plan r (length (route_at slots width r)) 0 (route_at slots width r)) (omega (arith, g.1, ap length (split-route h))) in
         (w.0 ∙ ap (placed_on t) (sym (split-route h)) ∙ g.0, w.1, w.2 ∙ g.2)
 
     pub all-stored : routes ≤ r → t ≡ placed_on s (parts_of plan 0 (routes_in slots routes width))
     unfolding placed_on parts_of
-    all-stored h = ap (λ l. placed_on t (parts_of plan r l)) (sym (gives-done route_at r routes h)) ∙ g.0
+    all-stored h = ap (λ l. placed_on t (parts_of plan r l)) (sym (gives-done (route_at slots width) r routes h)) ∙ g.0

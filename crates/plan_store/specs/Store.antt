@@ -1,5 +1,5 @@
 -- Storing a plan (document 02, item 6): its answer, and the file afterwards.
-use Rattle.std.specs.Prelude.{◌≡◌, Bool, cond, List, [], ◌∷◌, ◌++◌, ℕ, zero, suc, ◌+◌, ltb, eqb, length, take, drop}
+use Rattle.std.specs.Prelude.{◌≡◌, cond, List, [], ◌∷◌, ◌++◌, ℕ, zero, suc, ◌+◌, ltb, eqb, length, take, drop}
 use Rattle.lists.specs.Index.{first_at}
 use Rattle.outcome.specs.declared.Told.{Told}
 use Rattle.outcome.specs.Outcome.{found, plan_file, plan_request, plan_there, plan_room, plain}

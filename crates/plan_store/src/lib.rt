@@ -5,29 +5,30 @@ mod place;
 mod slots;
 
 ghost use Rattle.std.specs.Prelude.{◌≡◌};
+ghost use Rattle.outcome.specs.Outcome.{plain, told_by};
 ghost use Rattle.plan_store.specs.Store.{store_outcome, Stored};
 
-use outcome::Told;
+use outcome::{Outcome, Refusal, Told};
 
-// The refusals in their order, or 0.
-fn refused(file: &[u8], plan: u32, slots: &[u32], routes: u32, width: u32) -> u32
-    ensures { result ≡ store_outcome file.now plan slots.now routes
-        width }
+// The refusals in their order.
+fn refused(file: &[u8], plan: u32, slots: &[u32], routes: u32, width: u32) -> Result<(), Refusal>
+    ensures { told_by result
+        ≡ plain (store_outcome file.now plan slots.now routes width) }
 {
     if plan_file::wrong(file) {
-        return outcome::PLAN_FILE;
+        return Err(Refusal::plain(Outcome::PlanFile));
     }
     if slots::wrong_request(plan, slots, routes, width) {
-        return outcome::PLAN_REQUEST;
+        return Err(Refusal::plain(Outcome::PlanRequest));
     }
     if plan_file::has_plan(file, plan) {
-        return outcome::PLAN_THERE;
+        return Err(Refusal::plain(Outcome::PlanThere));
     }
     let needed = slots::needed(slots, routes as usize, width as usize);
     if plan_file::free_count(file) < needed {
-        return outcome::PLAN_ROOM;
+        return Err(Refusal::plain(Outcome::PlanRoom));
     }
-    outcome::FOUND
+    Ok(())
 }
 
 // The routes in the slots stored under a plan number, in the lowest free records. A file out of
@@ -37,10 +38,9 @@ pub fn store(file: &mut [u8], plan: u32, slots: &[u32], routes: u32, width: u32)
     ensures { Stored file.old plan slots.now routes width result
         file.new }
 {
-    let outcome = refused(file, plan, slots, routes, width);
-    if outcome != outcome::FOUND {
-        return outcome::plain(outcome);
+    if let Err(refusal) = refused(file, plan, slots, routes, width) {
+        return refusal.into();
     }
     place::put_routes(file, plan, slots, routes as usize, width as usize);
-    outcome::plain(outcome::FOUND)
+    Outcome::Found.plain()
 }

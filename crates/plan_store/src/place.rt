@@ -14,14 +14,12 @@ fn next_free(file: &[u8], at: usize) -> usize
     ensures { result ≡ next_free file.now at }
 {
     let n = file.len() / plan_record::RECORD;
-    let mut i = at;
-    while i < n {
+    for i in at..n {
         if plan_record::plan(file, i) == 0 {
             return i;
         }
-        i += 1;
     }
-    i
+    at.max(n)
 }
 
 // The first six of what is left of a route, or all.
@@ -29,9 +27,10 @@ fn first_part(arcs: &[u32]) -> &[u32]
     ensures { result.now ≡ take part_arcs arcs.now }
 {
     if arcs.len() <= plan_record::PART {
-        return arcs;
+        arcs
+    } else {
+        &arcs[..plan_record::PART]
     }
-    &arcs[..plan_record::PART]
 }
 
 // A part, of the first arcs that are left, in the next free record from record `at` on; the record
@@ -61,12 +60,9 @@ fn put_route(file: &mut [u8], at: usize, plan: u32, rank: u8, route: &[u32]) -> 
         (parts_left plan rank 0 route.now)) }
 {
     let mut next = at;
-    let mut part: u16 = 0;
-    let mut from = 0;
-    while from < route.len() {
-        next = put_part(file, next, plan, rank, part, &route[from..]);
-        part += 1;
-        from += plan_record::PART;
+    for part in 0..slots::part_count(route.len()) {
+        let left = &route[part * plan_record::PART..];
+        next = put_part(file, next, plan, rank, part as u16, left);
     }
     next
 }
@@ -93,9 +89,7 @@ pub fn put_routes(file: &mut [u8], plan: u32, slots: &[u32], routes: usize, widt
         (parts_of plan 0 (routes_in slots.now routes width))).file }
 {
     let mut next = 0;
-    let mut r = 0;
-    while r < routes {
+    for r in 0..routes {
         next = put_slot(file, next, plan, r as u8, slots::slot_of(slots, r, width));
-        r += 1;
     }
 }

@@ -25,42 +25,25 @@ pub fn slot_of(slots: &[u32], r: usize, width: usize) -> &[u32]
 pub fn arcs_in(slot: &[u32]) -> usize
     ensures { result ≡ arcs_in slot.now }
 {
-    let mut m = 0;
-    while m < slot.len() {
-        if slot[m] == labels::field::NONE {
-            return m;
-        }
-        m += 1;
-    }
-    m
+    slot.iter()
+        .position(|&a| a == labels::field::NONE)
+        .unwrap_or(slot.len())
 }
 
 // Whether each number is an arc's.
 fn all_arcs(route: &[u32]) -> bool
     ensures { result ≡ every (λ a. ltb a most_arcs) route.now }
 {
-    let mut i = 0;
-    while i < route.len() {
-        if table::fault::MOST_ARCS <= route[i] as usize {
-            return false;
-        }
-        i += 1;
-    }
-    true
+    route
+        .iter()
+        .all(|&a| (a as usize) < table::fault::MOST_ARCS)
 }
 
 // Whether each word stands for no arc.
 fn all_none(words: &[u32]) -> bool
     ensures { result ≡ every (λ a. eqb a no_number) words.now }
 {
-    let mut i = 0;
-    while i < words.len() {
-        if words[i] != labels::field::NONE {
-            return false;
-        }
-        i += 1;
-    }
-    true
+    words.iter().all(|&a| a == labels::field::NONE)
 }
 
 // Whether a slot is empty, or out of form, or holds a number that is no arc's.
@@ -68,13 +51,7 @@ fn wrong_slot(slot: &[u32]) -> bool
     ensures { result ≡ wrong_slot slot.now }
 {
     let n = arcs_in(slot);
-    if n == 0 {
-        return true;
-    }
-    if !all_arcs(&slot[..n]) {
-        return true;
-    }
-    !all_none(&slot[n..])
+    n == 0 || !all_arcs(&slot[..n]) || !all_none(&slot[n..])
 }
 
 // Whether one of the slots is.
@@ -83,44 +60,27 @@ fn any_wrong(slots: &[u32], routes: usize, width: usize) -> bool
     ensures { result ≡ any (λ r. wrong_slot (slot width r slots.now))
         (up_from 0 routes) }
 {
-    let mut r = 0;
-    while r < routes {
-        if wrong_slot(slot_of(slots, r, width)) {
-            return true;
-        }
-        r += 1;
-    }
-    false
+    (0..routes).any(|r| wrong_slot(slot_of(slots, r, width)))
 }
 
 // Whether the request is refused with 17.
 pub fn wrong_request(plan: u32, slots: &[u32], routes: u32, width: u32) -> bool
     ensures { result ≡ wrong_request plan slots.now routes width }
 {
-    if plan == 0 {
-        return true;
-    }
-    if routes < 1 {
-        return true;
-    }
-    if summary::MOST_ROUTES < routes as usize {
-        return true;
-    }
-    if MOST_WIDTH < width {
-        return true;
-    }
-    if slots.len() != routes as usize * width as usize {
-        return true;
-    }
-    any_wrong(slots, routes as usize, width as usize)
+    plan == 0
+        || routes < 1
+        || summary::MOST_ROUTES < routes as usize
+        || MOST_WIDTH < width
+        || slots.len() != routes as usize * width as usize
+        || any_wrong(slots, routes as usize, width as usize)
 }
 
 // How many records a route of so many arcs takes.
-fn part_count(arcs: usize) -> usize
+pub fn part_count(arcs: usize) -> usize
     requires { arcs ≤ most_width }
     ensures { result ≡ (arcs + (part_arcs - 1)) / part_arcs }
 {
-    (arcs + (plan_record::PART - 1)) / plan_record::PART
+    arcs.div_ceil(plan_record::PART)
 }
 
 // How many records the routes take.
@@ -130,10 +90,8 @@ pub fn needed(slots: &[u32], routes: usize, width: usize) -> usize
     ensures { result ≡ needed_for (routes_in slots.now routes width) }
 {
     let mut n = 0;
-    let mut r = 0;
-    while r < routes {
+    for r in 0..routes {
         n += part_count(arcs_in(slot_of(slots, r, width)));
-        r += 1;
     }
     n
 }

@@ -2,22 +2,26 @@
 -- ask is accepted; a good table and no refusal leave the buffers to decide. Where the query is refused everything is as it was; where it is not, the rounds
 -- give all that is due.
 use mathlib.Core.Path.{◌≡◌, refl, sym, ap, subst, ◌∙◌}
-use mathlib.Core.Bool.{Bool, true, false, not, ◌&&◌, ◌||◌, cond}
+use mathlib.Core.Bool.{Bool, true, false, not, ◌&&◌, cond}
 use mathlib.Core.List.{List, [], ◌++◌, map}
-use mathlib.Core.Logic.{◌⊎◌, inl, inr, ⊎_elim}
-use Prim.Native.Nat.{ℕ, suc, ◌*◌, ◌-◌, ◌≤◌}
-use native.Mathlib.Nat.{mul-le-mul}
+use mathlib.Core.Logic.{◌⊎◌, inl, inr}
+use Prim.Native.Nat.{ℕ, suc, ◌*◌, ◌≤◌}
 use native.Mathlib.Omega.{arith}
-use lib.Dec.{T, ltb, leb, eqb, ltb→lt, lt→ltb, leb→le, T_not}
+use lib.Dec.{T, ltb, leb, eqb, ltb→lt, leb→le, T_not}
 use lib.ListN.{length, drop, replicate}
 use borrow.Author.Tests.{eqb-true, eqb-false, ne_eqb}
-use Rattle.lists.proofs.Cases.{cases, order}
-use Rattle.lists.proofs.TestLaws.{and_l, and_r, or_l, or_r, eq→eqb}
+use Rattle.std.proofs.lemmas.Bool.{or_parts, ltb-false}
+use Rattle.lists.proofs.Cases.{cases}
+use Rattle.lists.proofs.TestLaws.{and_l, and_r, eq→eqb}
 use Rattle.net.specs.Limits.{most_nodes, most_routes, most_b, most_labels}
-use Rattle.outcome.specs.Outcome.{buffers, closures, plain}
+use Rattle.outcome.specs.declared.Told.{Told}
+use Rattle.outcome.specs.declared.Refusal.{Refusal}
+use Rattle.outcome.specs.Outcome.{buffers, closures, plain, told_of}
+use Rattle.outcome.proofs.OutcomeLaws.{refused_not_zero}
 use Rattle.net.specs.Outcome.{told, answers, summaries, refusal}
 use Rattle.table.specs.Fault.{table_fault, good}
-use Rattle.table.proofs.FaultLaws.{told-good}
+use Rattle.closures.specs.Closed.{wrong}
+use Rattle.table.proofs.FaultLaws.{told-good, good-size}
 use Rattle.search_ask.specs.declared.Ask.{Ask}
 use Rattle.search_ask.specs.Ask.{Accepted, query_for, room_in}
 use Rattle.summary.specs.Sums.{written}
@@ -25,7 +29,7 @@ use Rattle.query_rounds.specs.Area.{area_with}
 use Rattle.query_rounds.specs.Progress.{Wanted, as_record}
 use Rattle.query_rounds.specs.Finished.{Finished}
 use Rattle.query_rounds.specs.declared.Got.{Got}
-use Rattle.query.specs.Query.{Input, query_of, width, wrong_closures, too_small, refused_of, reaches, rounds_of, tells_due, labels_due, area_due, sums_due, asked, Cored}
+use Rattle.query.specs.Query.{Input, query_of, width, wrong_closures, refusal_closed, too_small, refused_of, reaches, rounds_of, tells_due, labels_due, area_due, sums_due, asked, Cored}
 use Rattle.query.specs.declared.Wish.{Wish}
 
 -- ---- 7, 8 and 9
@@ -72,15 +76,11 @@ pub refusal_is : (i : Input) → refusal (query_of i) i.k ≡ refusal (query_for
 unfolding refusal
 refusal_is i = refl
 
+-- what the bounds of the buffers' sizes need
+pub limited : (i : Input) → table_fault i.ask.nodes i.table ≡ good → refusal (query_of i) i.k ≡ 0 → (1 ≤ i.ask.nodes) × (i.ask.nodes ≤ most_nodes) × (i.k ≤ most_routes)
+limited i ok e = let size = good-size _ _ ok in (size.0, size.1, (passed i ok e).k-most)
+
 -- ---- 10
-
--- the words of k slots are few
-pub few_words : (k nodes : ℕ) → k ≤ most_routes → nodes ≤ most_nodes → k * (nodes - 1) ≤ most_routes * most_nodes
-few_words k nodes h g = mul-le-mul {m₁ = nodes - 1} {m₂ = most_nodes} h (omega arith)
-
--- a test that does not fire
-quiet : (a b : ℕ) (x : Bool) → (T (ltb a b) → T x) → x ≡ false → b ≤ a
-quiet a b x f e = ⊎_elim (λ h. h) (λ h. absurd (subst T e (f (lt→ltb a b h)))) (order b a)
 
 -- no buffer is too small
 pub record Large (i : Input) : Type 0 where
@@ -91,14 +91,44 @@ pub record Large (i : Input) : Type 0 where
 pub large : (i : Input) → too_small i ≡ false → Large i
 unfolding too_small
 large i e =
-    let words = ltb (length i.area) (i.k * width i) in
-    let lent = ltb i.lent i.k in
-    let room = ltb most_labels (room_in i.labels) in
-    record {
-      words = quiet (length i.area) (i.k * width i) (too_small i) (λ h. or_l (words || lent) room (or_l words lent h)) e;
-      lent = quiet i.lent i.k (too_small i) (λ h. or_l (words || lent) room (or_r words lent h)) e;
-      room = quiet most_labels (room_in i.labels) (too_small i) (or_r (words || lent) room) e;
-    }
+    let room = or_parts _ _ e in
+    let lent = or_parts _ _ room.0 in
+    record { words = ltb-false _ _ lent.0; lent = ltb-false _ _ lent.1; room = ltb-false _ _ room.1 }
+
+-- ---- a decision that the outcome 0 passes, of what is told and of a test
+
+pub on_from : (x y : Told) → (cond (not (eqb x.outcome 0)) x y).outcome ≡ 0 → (x.outcome ≡ 0) × (y.outcome ≡ 0)
+on_from x y e = go (cases (eqb x.outcome 0))
+  where
+    go : (eqb x.outcome 0 ≡ true) ⊎ (eqb x.outcome 0 ≡ false) → (x.outcome ≡ 0) × (y.outcome ≡ 0)
+    go (inl a) = (eqb-true _ _ a, rw a at e)
+    go (inr a) = absurd (eqb-false _ _ a (rw a at e))
+
+pub past : (b : Bool) (n : ℕ) (y : Told) → 1 ≤ n → (cond b (plain n) y).outcome ≡ 0 → (b ≡ false) × (y.outcome ≡ 0)
+past true n y h e = absurd (omega (arith, h, e))
+past false n y h e = (refl, e)
+
+-- ---- 15, 7, 8 and 9 together
+
+module _ (table closed : List ℕ) (ask : Ask) (k : ℕ) where
+  pub closed-none : (refusal_closed table closed ask k).outcome ≡ 0 → (wrong table closed ≡ false) × (refusal (query_for ask [] [] []) k ≡ 0)
+  unfolding refusal_closed
+  closed-none e = past (wrong table closed) closures _ (omega arith) e
+
+  -- one of them, in the place of the two decisions
+  pub closed-some : (x : Refusal) → told_of x ≡ refusal_closed table closed ask k → (rest : Told)
+      → cond (wrong table closed) (plain closures)
+      (cond (not (eqb (refusal (query_for ask [] [] []) k) 0)) (plain (refusal (query_for ask [] [] []) k)) rest) ≡ told_of x
+  unfolding refusal_closed
+  closed-some x e rest = go (cases (wrong table closed))
+    where
+      go : (wrong table closed ≡ true) ⊎ (wrong table closed ≡ false)
+          → cond (wrong table closed) (plain closures)
+          (cond (not (eqb (refusal (query_for ask [] [] []) k) 0)) (plain (refusal (query_for ask [] [] []) k)) rest) ≡ told_of x
+      go (inl a) = rw a (sym (rw a at e))
+      go (inr a) =
+          let n : told_of x ≡ plain (refusal (query_for ask [] [] []) k) = rw a at e in
+          rw (a, ne_eqb _ 0 (λ z. refused_not_zero x (ap (λ y. y.outcome) n ∙ z))) (sym n)
 
 -- ---- what decides
 
@@ -107,6 +137,9 @@ module _ (i : Input) where
   pub refused-table : ((table_fault i.ask.nodes i.table).outcome ≡ 0 → ⊥) → refused_of i ≡ table_fault i.ask.nodes i.table
   unfolding refused_of
   refused-table ne = rw (ne_eqb _ 0 ne)
+
+  pub faulty : (x : Refusal) → told_of x ≡ table_fault i.ask.nodes i.table → told_of x ≡ refused_of i
+  faulty x e = e ∙ sym (refused-table (λ z. refused_not_zero x (ap (λ y. y.outcome) e ∙ z)))
 
   module _ (ok : table_fault i.ask.nodes i.table ≡ good) where
     pub refused-closures : wrong_closures i ≡ true → refused_of i ≡ plain closures
@@ -118,6 +151,9 @@ module _ (i : Input) where
       unfolding refused_of
       refused-number n e some = rw (ok, right, e, some)
 
+      pub numbered : (x : Refusal) → told_of x ≡ plain (refusal (query_for i.ask [] [] []) i.k) → told_of x ≡ refused_of i
+      numbered x e = e ∙ sym (refused-number _ (refusal_is i) (ne_eqb _ 0 (λ z. refused_not_zero x (ap (λ y. y.outcome) e ∙ z))))
+
       pub refused-room : refusal (query_of i) i.k ≡ 0 → (b : Bool) → too_small i ≡ b → refused_of i ≡ cond b (plain buffers) good
       unfolding refused_of
       refused-room e b s = rw (ok, right, e, s)
@@ -126,26 +162,12 @@ module _ (i : Input) where
 pub refused_none : (i : Input) → (refused_of i).outcome ≡ 0
     → (table_fault i.ask.nodes i.table ≡ good) × (refusal (query_of i) i.k ≡ 0) × (too_small i ≡ false) × (wrong_closures i ≡ false)
 unfolding refused_of
-refused_none i zero_is = go (cases (eqb (table_fault i.ask.nodes i.table).outcome 0)) (cases (wrong_closures i)) (cases (eqb (refusal (query_of i) i.k) 0)) (cases (too_small i))
-  where
-    ten : eqb (table_fault i.ask.nodes i.table).outcome 0 ≡ true → wrong_closures i ≡ false → eqb (refusal (query_of i) i.k) 0 ≡ true → too_small i ≡ true → ⊥
-    ten a d b c = let z : ◌≡◌ {A = ℕ} buffers 0 = rw (a, d, b, c) at zero_is in omega arith
-
-    number : eqb (table_fault i.ask.nodes i.table).outcome 0 ≡ true → wrong_closures i ≡ false → eqb (refusal (query_of i) i.k) 0 ≡ false → ⊥
-    number a d b = eqb-false _ _ b (rw (a, d, b) at zero_is)
-
-    fifteen : eqb (table_fault i.ask.nodes i.table).outcome 0 ≡ true → wrong_closures i ≡ true → ⊥
-    fifteen a d = let z : ◌≡◌ {A = ℕ} closures 0 = rw (a, d) at zero_is in omega arith
-
-    go : (eqb (table_fault i.ask.nodes i.table).outcome 0 ≡ true) ⊎ (eqb (table_fault i.ask.nodes i.table).outcome 0 ≡ false)
-        → (wrong_closures i ≡ true) ⊎ (wrong_closures i ≡ false)
-        → (eqb (refusal (query_of i) i.k) 0 ≡ true) ⊎ (eqb (refusal (query_of i) i.k) 0 ≡ false) → (too_small i ≡ true) ⊎ (too_small i ≡ false)
-        → (table_fault i.ask.nodes i.table ≡ good) × (refusal (query_of i) i.k ≡ 0) × (too_small i ≡ false) × (wrong_closures i ≡ false)
-    go (inl a) (inr d) (inl b) (inr c) = (told-good i.ask.nodes i.table (eqb-true _ _ a), eqb-true _ _ b, c, d)
-    go (inl a) (inr d) (inl b) (inl c) = absurd (ten a d b c)
-    go (inl a) (inr d) (inr b) c = absurd (number a d b)
-    go (inl a) (inl d) b c = absurd (fifteen a d)
-    go (inr a) d b c = absurd (eqb-false _ _ a (rw a at zero_is))
+refused_none i zero_is =
+    let table = on_from (table_fault i.ask.nodes i.table) _ zero_is in
+    let bytes = past (wrong_closures i) closures _ (omega arith) table.1 in
+    let numbers = on_from (plain (refusal (query_of i) i.k)) _ bytes.1 in
+    let small = past (too_small i) buffers _ (omega arith) numbers.1 in
+    (told-good i.ask.nodes i.table table.0, numbers.0, small.0, bytes.0)
 
 -- what the rounds ask, where nothing refuses
 pub record Reached (i : Input) : Type 0 where

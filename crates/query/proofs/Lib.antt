@@ -3,3 +3,4 @@ pub mod Promises
 pub mod Cases
 pub mod Whole
 pub mod Open
+pub mod Tests

@@ -35,6 +35,11 @@ query_of i = query_for i.ask i.table i.closed i.labels
 abbrev pub wrong_closures : Input → Bool
 wrong_closures i = i.closing && wrong i.table i.closed
 
+-- 15, then 7, 8 and 9: what each call that is always lent closures decides after the records; 0 where none of them is due.
+unfoldable pub refusal_closed : List ℕ → List ℕ → Ask → ℕ → Told
+unfolding wrong refusal
+refusal_closed table closed ask k = cond (wrong table closed) (plain closures) (plain (refusal (query_for ask [] [] []) k))
+
 -- A slot has (nodes − 1) words.
 abbrev pub width : Input → ℕ
 width i = Rattle.search_ask.specs.Ask.width i.ask

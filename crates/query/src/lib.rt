@@ -1,23 +1,25 @@
 // The query: every input gets its outcome, every buffer its contents.
 #![tactic(auto)]
 
-ghost use Rattle.std.specs.Prelude.{◌≡◌, ◌&&◌, [], ◌≤◌};
+ghost use Rattle.std.specs.Prelude.{◌≡◌, ◌&&◌, [], ◌*◌, ◌≤◌, ltb, length};
 ghost use Rattle.net.specs.Limits.{most_nodes, most_routes};
 ghost use Rattle.net.specs.Outcome.{refusal};
+ghost use Rattle.outcome.specs.Outcome.{plain, told_by};
 ghost use Rattle.closures.specs.Closed.{wrong};
-ghost use Rattle.search_ask.specs.Ask.{query_for};
+ghost use Rattle.search_ask.specs.Ask.{query_for, width};
 ghost use Rattle.query_rounds.specs.Progress.{Zeros};
 ghost use Rattle.query.specs.Query.{
   asked,
   input,
   input_closed,
+  refusal_closed,
   too_small,
   refused_of,
   got_of,
   Cored,
 };
 
-use outcome::Told;
+use outcome::{Outcome, Refusal, Told};
 use query_rounds::Got;
 use search_ask::Ask;
 
@@ -41,67 +43,65 @@ struct Done {
     n: usize,
 }
 
-// 7, 8 or 9, or 0 where there is none of them.
-pub fn refusal(ask: Ask, k: u32) -> u32
-    ensures { result ≡ refusal (query_for ask [] [] []) k }
+// 7, 8 or 9, where one of them is due.
+#[tactic(auto, using(crate::proofs::Tests::tests), unfolding(net::specs::Outcome::refusal))]
+pub fn refusal(ask: Ask, k: u32) -> Result<(), Refusal>
+    ensures { told_by result ≡ plain (refusal (query_for ask [] [] []) k) }
 {
-    if ask.nodes <= ask.s {
-        return outcome::ENDS;
+    if ask.nodes <= ask.s || ask.nodes <= ask.goal || ask.s == ask.goal {
+        return Err(Refusal::plain(Outcome::Ends));
     }
-    if ask.nodes <= ask.goal {
-        return outcome::ENDS;
+    if k < 1 || summary::MOST_ROUTES < k as usize {
+        return Err(Refusal::plain(Outcome::Routes));
     }
-    if ask.s == ask.goal {
-        return outcome::ENDS;
+    if ask.b < 1 || MOST_B < ask.b || ask.b <= ask.a {
+        return Err(Refusal::plain(Outcome::Threshold));
     }
-    if k < 1 {
-        return outcome::ROUTES;
+    Ok(())
+}
+
+// 15, 7, 8 or 9, where one of them is due, in a call that is always lent closures.
+#[tactic(auto, unfolding(crate::specs::Query::refusal_closed))]
+pub fn refusal_closed(table: &[u8], closed: &[u8], ask: Ask, k: u32) -> Result<(), Refusal>
+    ensures { told_by result ≡ refusal_closed table.now closed.now ask k }
+{
+    if closures::wrong(table, closed) {
+        return Err(Refusal::plain(Outcome::Closures));
     }
-    if summary::MOST_ROUTES < k as usize {
-        return outcome::ROUTES;
-    }
-    if ask.b < 1 {
-        return outcome::THRESHOLD;
-    }
-    if MOST_B < ask.b {
-        return outcome::THRESHOLD;
-    }
-    if ask.b <= ask.a {
-        return outcome::THRESHOLD;
-    }
-    0
+    refusal(ask, k)
+}
+
+// Whether the area has fewer slots than are wanted.
+#[tactic(auto, using(crate::proofs::Tests::tests))]
+pub fn few_slots(ask: Ask, wanted: u32, area: &[u32]) -> bool
+    requires { (1 ≤ ask.nodes) × (ask.nodes ≤ most_nodes) × (wanted ≤ most_routes) }
+    ensures { result ≡ ltb (length area.now) (wanted * width ask) }
+{
+    let w = ask.nodes as usize - 1;
+    area.len() < wanted as usize * w
 }
 
 // Whether a buffer is too small, or the label buffer too large.
+#[tactic(auto, using(crate::proofs::Tests::tests), unfolding(crate::specs::Query::too_small))]
 fn too_small(ask: Ask, wish: Wish, labels: &[u8], area: &[u32]) -> bool
     requires { (1 ≤ ask.nodes) × (ask.nodes ≤ most_nodes) × (wish.k ≤ most_routes) }
     ensures { result ≡ too_small
         (asked [] [] ask wish labels.now area.now) }
 {
-    let w = ask.nodes as usize - 1;
-    let wanted = wish.k as usize;
-    let lent = wish.lent;
-    if area.len() < wanted * w {
-        return true;
-    }
-    if lent < wanted {
-        return true;
-    }
-    MOST_LABELS < labels.len() / labels::field::LABEL
+    few_slots(ask, wish.k, area)
+        || wish.lent < wish.k as usize
+        || MOST_LABELS < labels.len() / labels::field::LABEL
 }
 
 // Whether closures are lent that are of another number than the arcs, or have another value.
 fn wrong_closures(table: &[u8], closed: &[u8], closing: bool) -> bool
     ensures { result ≡ (closing && wrong table.now closed.now) }
 {
-    if closing {
-        return closures::wrong(table, closed);
-    }
-    false
+    closing && closures::wrong(table, closed)
 }
 
-// The decisions before the rounds: 13 and the records, 15, then 7, 8, 9 and 10; 0 where the rounds
-// are to be made.
+// The decisions before the rounds: 13 and the records, 15, then 7, 8, 9 and 10. Where none of them
+// refuses the rounds are to be made.
 pub fn refused(
     table: &[u8],
     closed: &[u8],
@@ -109,26 +109,19 @@ pub fn refused(
     wish: Wish,
     labels: &[u8],
     area: &[u32],
-) -> Told
-    ensures { result ≡ refused_of (asked table.now closed.now ask wish
+) -> Result<(), Refusal>
+    ensures { told_by result ≡ refused_of (asked table.now closed.now ask wish
         labels.now area.now) }
 {
-    let nodes = ask.nodes;
-    let told = table::fault::check(table, nodes);
-    if told.outcome != outcome::FOUND {
-        return told;
-    }
+    table::fault::check(table, ask.nodes)?;
     if wrong_closures(table, closed, wish.closing) {
-        return outcome::plain(outcome::CLOSURES);
+        return Err(Refusal::plain(Outcome::Closures));
     }
-    let f = refusal(ask, wish.k);
-    if f != 0 {
-        return outcome::plain(f);
-    }
+    refusal(ask, wish.k)?;
     if too_small(ask, wish, labels, area) {
-        return outcome::plain(outcome::BUFFERS);
+        return Err(Refusal::plain(Outcome::Buffers));
     }
-    told
+    Ok(())
 }
 
 // The query of an ask, with its summaries in rows of zeros that are lent: they stand on the stack
@@ -150,9 +143,11 @@ fn decide(
         (got_of result lens.new arcs.new counts.new)
         labels.new area.new }
 {
-    let told = refused(table, closed, ask, wish, labels, area);
-    if told.outcome != outcome::FOUND {
-        return Done { told: told, n: 0 };
+    if let Err(refusal) = refused(table, closed, ask, wish, labels, area) {
+        return Done {
+            told: Told::from(refusal),
+            n: 0,
+        };
     }
     let k = wish.k as usize;
     Done {
@@ -169,12 +164,11 @@ fn got_of(
 ) -> Got
     ensures { result ≡ got_of d lens arcs counts }
 {
-    let told = d.told;
     Got {
-        told: told,
+        told: d.told,
         sums: summary::Sums {
             length: lens,
-            arcs: arcs,
+            arcs,
             labels: counts,
         },
         n: d.n,
@@ -185,11 +179,11 @@ pub fn ask_of(nodes: u32, s: u32, goal: u32, a: u32, b: u32) -> Ask
     ensures { result ≡ record { nodes = nodes; s = s; goal = goal; a = a; b = b } }
 {
     Ask {
-        nodes: nodes,
-        s: s,
-        goal: goal,
-        a: a,
-        b: b,
+        nodes,
+        s,
+        goal,
+        a,
+        b,
     }
 }
 
@@ -212,9 +206,9 @@ pub fn core(
 {
     let ask = ask_of(nodes, s, goal, a, b);
     let wish = Wish {
-        k: k,
+        k,
         closing: false,
-        lent: lent,
+        lent,
     };
     let mut lens = [0u64; summary::MOST_ROUTES];
     let mut arcs = [0u16; summary::MOST_ROUTES];
@@ -253,9 +247,9 @@ pub fn core_closed(
 {
     let ask = ask_of(nodes, s, goal, a, b);
     let wish = Wish {
-        k: k,
+        k,
         closing: true,
-        lent: lent,
+        lent,
     };
     let mut lens = [0u64; summary::MOST_ROUTES];
     let mut arcs = [0u16; summary::MOST_ROUTES];

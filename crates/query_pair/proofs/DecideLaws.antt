@@ -1,17 +1,17 @@
 -- The decisions of the call for a pair in their order: those of the query with closures, for two routes at the threshold 0/1. Where the call is refused everything is as
 -- it was; where it is not, what the searches make is what is due.
 use mathlib.Core.Path.{◌≡◌, refl, sym, ap, subst, ◌∙◌}
-use mathlib.Core.Bool.{Bool, true, false, ◌||◌, cond}
+use mathlib.Core.Bool.{Bool, true, false, cond}
 use mathlib.Core.List.{List, [], ◌++◌}
-use mathlib.Core.Logic.{◌⊎◌, inl, inr, ⊎_elim}
 use Prim.Native.Nat.{ℕ, ◌*◌, ◌≤◌}
 use native.Mathlib.Omega.{arith}
-use lib.Dec.{T, ltb, eqb, lt→ltb}
+use lib.Dec.{eqb}
 use lib.ListN.{length, drop, replicate}
-use borrow.Author.Tests.{eqb-true, eqb-false, ne_eqb}
-use Rattle.lists.proofs.Cases.{cases, order}
-use Rattle.lists.proofs.TestLaws.{or_l, or_r}
-use Rattle.outcome.specs.Outcome.{buffers, closures, plain}
+use borrow.Author.Tests.{eqb-true, ne_eqb}
+use Rattle.std.proofs.lemmas.Bool.{or_parts, ltb-false}
+use Rattle.outcome.specs.declared.Refusal.{Refusal}
+use Rattle.outcome.specs.Outcome.{buffers, closures, plain, told_of}
+use Rattle.outcome.proofs.OutcomeLaws.{refused_not_zero}
 use Rattle.net.specs.Outcome.{refusal}
 use Rattle.table.specs.Fault.{table_fault, good}
 use Rattle.table.proofs.FaultLaws.{told-good, good-size}
@@ -23,7 +23,8 @@ use Rattle.node_queue.specs.Queue.{Roomy}
 use Rattle.summary.specs.Sums.{written}
 use Rattle.query_rounds.specs.Area.{area_with}
 use Rattle.query_rounds.specs.declared.Got.{Got}
-use Rattle.query.proofs.DecideLaws.{Passed}
+use Rattle.query.specs.Query.{refusal_closed}
+use Rattle.query.proofs.DecideLaws.{Passed, on_from, past, closed-none, closed-some}
 use Rattle.pair.specs.Pair.{least_total}
 use Rattle.query_pair.specs.Made.{told_for, summaries_for, Made}
 use Rattle.query_pair.specs.Pair.{Input, query_of, width, too_small, refused_of, reaches, tells_due, area_due, sums_due, work_due, given, Cored}
@@ -42,10 +43,6 @@ refusal_is i = refl
 
 -- ---- 10
 
--- a test that does not fire
-quiet : (a b : ℕ) (x : Bool) → (T (ltb a b) → T x) → x ≡ false → b ≤ a
-quiet a b x f e = ⊎_elim (λ h. h) (λ h. absurd (subst T e (f (lt→ltb a b h)))) (order b a)
-
 -- no buffer is too small
 pub record Large (i : Input) : Type 0 where
   pub words : 2 * width i ≤ length i.area
@@ -55,14 +52,9 @@ pub record Large (i : Input) : Type 0 where
 large : (i : Input) → too_small i ≡ false → Large i
 unfolding too_small
 large i e =
-    let words = ltb (length i.area) (2 * width i) in
-    let lent = ltb i.lent 2 in
-    let room = ltb (length i.work) (i.ask.nodes * room_bytes) in
-    record {
-      words = quiet (length i.area) (2 * width i) (too_small i) (λ h. or_l (words || lent) room (or_l words lent h)) e;
-      lent = quiet i.lent 2 (too_small i) (λ h. or_l (words || lent) room (or_r words lent h)) e;
-      room = quiet (length i.work) (i.ask.nodes * room_bytes) (too_small i) (or_r (words || lent) room) e;
-    }
+    let room = or_parts _ _ e in
+    let lent = or_parts _ _ room.0 in
+    record { words = ltb-false _ _ lent.0; lent = ltb-false _ _ lent.1; room = ltb-false _ _ room.1 }
 
 -- ---- what decides
 
@@ -72,19 +64,17 @@ module _ (i : Input) where
   unfolding refused_of
   refused-table ne = rw (ne_eqb _ 0 ne)
 
+  pub faulty : (x : Refusal) → told_of x ≡ table_fault i.ask.nodes i.table → told_of x ≡ refused_of i
+  faulty x e = e ∙ sym (refused-table (λ z. refused_not_zero x (ap (λ y. y.outcome) e ∙ z)))
+
   module _ (ok : table_fault i.ask.nodes i.table ≡ good) where
-    pub refused-closures : wrong i.table i.closed ≡ true → refused_of i ≡ plain closures
+    pub numbered : (x : Refusal) → told_of x ≡ refusal_closed i.table i.closed i.ask 2 → told_of x ≡ refused_of i
+    unfolding refused_of refusal
+    numbered x e = rw ok (sym (closed-some i.table i.closed i.ask 2 x e _))
+
+    pub refused-room : (refusal_closed i.table i.closed i.ask 2).outcome ≡ 0 → (b : Bool) → too_small i ≡ b → refused_of i ≡ cond b (plain buffers) good
     unfolding refused_of
-    refused-closures e = rw (ok, e)
-
-    module _ (bytes : wrong i.table i.closed ≡ false) where
-      pub refused-number : (n : ℕ) → refusal (query_of i) 2 ≡ n → eqb n 0 ≡ false → refused_of i ≡ plain n
-      unfolding refused_of
-      refused-number n e some = rw (ok, bytes, e, some)
-
-      pub refused-room : refusal (query_of i) 2 ≡ 0 → (b : Bool) → too_small i ≡ b → refused_of i ≡ cond b (plain buffers) good
-      unfolding refused_of
-      refused-room e b s = rw (ok, bytes, e, s)
+    refused-room e b s = let none = closed-none i.table i.closed i.ask 2 e in rw (ok, none.0, refusal_is i ∙ none.1, s)
 
 -- what the searches ask, where nothing refuses
 pub record Reached (i : Input) : Type 0 where
@@ -96,38 +86,12 @@ pub record Reached (i : Input) : Type 0 where
 pub reached : (i : Input) → (refused_of i).outcome ≡ 0 → Reached i
 unfolding refused_of
 reached i zero_is =
-    go (cases (eqb (table_fault i.ask.nodes i.table).outcome 0)) (cases (wrong i.table i.closed)) (cases (eqb (refusal (query_of i) 2) 0)) (cases (too_small i))
-  where
-    Table : Bool → Type 0
-    Table b = eqb (table_fault i.ask.nodes i.table).outcome 0 ≡ b
-
-    Bytes : Bool → Type 0
-    Bytes b = wrong i.table i.closed ≡ b
-
-    Numbers : Bool → Type 0
-    Numbers b = eqb (refusal (query_of i) 2) 0 ≡ b
-
-    ten : Table true → Bytes false → Numbers true → too_small i ≡ true → ⊥
-    ten a d b c = let z : ◌≡◌ {A = ℕ} buffers 0 = rw (a, d, b, c) at zero_is in omega arith
-
-    number : Table true → Bytes false → Numbers false → ⊥
-    number a d b = eqb-false _ _ b (rw (a, d, b) at zero_is)
-
-    fifteen : Table true → Bytes true → ⊥
-    fifteen a d = let z : ◌≡◌ {A = ℕ} closures 0 = rw (a, d) at zero_is in omega arith
-
-    all : Table true → Bytes false → Numbers true → too_small i ≡ false → Reached i
-    all a d b c =
-        let ok = told-good i.ask.nodes i.table (eqb-true _ _ a) in
-        let e = eqb-true _ _ b in
-        record { none = refused-room i ok d e false c; passed = passed i ok e; large = large i c }
-
-    go : Table true ⊎ Table false → Bytes true ⊎ Bytes false → Numbers true ⊎ Numbers false → (too_small i ≡ true) ⊎ (too_small i ≡ false) → Reached i
-    go (inl a) (inr d) (inl b) (inr c) = all a d b c
-    go (inl a) (inr d) (inl b) (inl c) = absurd (ten a d b c)
-    go (inl a) (inr d) (inr b) c = absurd (number a d b)
-    go (inl a) (inl d) b c = absurd (fifteen a d)
-    go (inr a) d b c = absurd (eqb-false _ _ a (rw a at zero_is))
+    let table = on_from (table_fault i.ask.nodes i.table) _ zero_is in
+    let bytes = past (wrong i.table i.closed) closures _ (omega arith) table.1 in
+    let numbers = on_from (plain (refusal (query_of i) 2)) _ bytes.1 in
+    let small = past (too_small i) buffers _ (omega arith) numbers.1 in
+    let ok = told-good i.ask.nodes i.table table.0 in
+    record { none = rw (ok, bytes.0, numbers.0, small.0); passed = passed i ok numbers.0; large = large i small.0 }
 
 pub room_for : (i : Input) → Reached i → Roomy i.ask.nodes i.work
 room_for i r = record { few = (good-size _ _ r.passed.ask.no-fault).1; enough = r.large.room }

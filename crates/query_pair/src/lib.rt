@@ -4,62 +4,45 @@
 mod made;
 
 ghost use Rattle.std.specs.Prelude.{◌≡◌, ◌≤◌, []};
+ghost use Rattle.outcome.specs.Outcome.{told_by};
 ghost use Rattle.net.specs.Limits.{most_nodes};
 ghost use Rattle.query_pair.specs.Pair.{given, input, too_small, refused_of, Cored};
 
-use outcome::Told;
+use outcome::{Outcome, Refusal};
 use query_rounds::Got;
 use search_ask::Ask;
 
 // Whether a buffer is too small; `lent` is the number of summaries lent.
+#[tactic(auto, using(query::proofs::Tests::tests), unfolding(crate::specs::Pair::too_small))]
 fn too_small(ask: Ask, lent: usize, area: &[u32], work: &[u8]) -> bool
     requires { (1 ≤ ask.nodes) × (ask.nodes ≤ most_nodes) }
     ensures { result ≡ too_small
         (given [] ask [] area.now lent work.now) }
 {
-    let nodes = ask.nodes as usize;
-    if area.len() < 2 * (nodes - 1) {
-        return true;
-    }
-    if lent < 2 {
-        return true;
-    }
-    work.len() < nodes * working_room::NODE
+    query::few_slots(ask, 2, area)
+        || lent < 2
+        || work.len() < ask.nodes as usize * working_room::NODE
 }
 
-// The decisions before the searches: 13 and the records, 15, then 7 and 10; 0 where the pair is to
-// be looked for.
-fn refused(table: &[u8], ask: Ask, closed: &[u8], area: &[u32], lent: usize, work: &[u8]) -> Told
-    ensures { result ≡ refused_of (given table.now ask closed.now
+// The decisions before the searches: 13 and the records, 15, then 7 and 10. Where none of them
+// refuses the pair is to be looked for.
+fn refused(
+    table: &[u8],
+    ask: Ask,
+    closed: &[u8],
+    area: &[u32],
+    lent: usize,
+    work: &[u8],
+) -> Result<(), Refusal>
+    ensures { told_by result ≡ refused_of (given table.now ask closed.now
         area.now lent work.now) }
 {
-    let nodes = ask.nodes;
-    let told = table::fault::check(table, nodes);
-    if told.outcome != outcome::FOUND {
-        return told;
-    }
-    if closures::wrong(table, closed) {
-        return outcome::plain(outcome::CLOSURES);
-    }
-    let f = query::refusal(ask, 2);
-    if f != 0 {
-        return outcome::plain(f);
-    }
+    table::fault::check(table, ask.nodes)?;
+    query::refusal_closed(table, closed, ask, 2)?;
     if too_small(ask, lent, area, work) {
-        return outcome::plain(outcome::BUFFERS);
+        return Err(Refusal::plain(Outcome::Buffers));
     }
-    told
-}
-
-// A refusal, which writes no summary.
-fn refuse(told: Told) -> Got
-    ensures { (result.told ≡ told) × (result.n ≡ 0) }
-{
-    Got {
-        told: told,
-        sums: made::no_sums(),
-        n: 0,
-    }
+    Ok(())
 }
 
 // The pair of an ask.
@@ -74,9 +57,8 @@ fn decide(
     ensures { Cored (given table.now ask closed.now
         area.old lent work.old) result area.new work.new }
 {
-    let told = refused(table, ask, closed, area, lent, work);
-    if told.outcome != outcome::FOUND {
-        return refuse(told);
+    if let Err(refusal) = refused(table, ask, closed, area, lent, work) {
+        return Got::from(refusal);
     }
     made::all(table, closed, ask, area, work)
 }

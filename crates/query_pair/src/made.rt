@@ -6,6 +6,7 @@ ghost use Rattle.search_ask.specs.Ask.{Accepted, query_for, width};
 ghost use Rattle.node_queue.specs.Queue.{Roomy};
 ghost use Rattle.query_pair.specs.Made.{Prepared, got_of, none_got, Made};
 
+use outcome::Outcome;
 use pair_walks::Ways;
 use query_rounds::Got;
 use search_ask::Ask;
@@ -33,26 +34,13 @@ fn prepare(table: &[u8], closed: &[u8], nodes: u32, s: u32, goal: u32, room: &mu
     true
 }
 
-// The summaries of no route.
-pub(crate) fn no_sums() -> Sums
-    ensures { result ≡ none_got.sums }
-{
-    let none = [0u64; summary::MOST_ROUTES];
-    let few = [0u16; summary::MOST_ROUTES];
-    Sums {
-        length: none,
-        arcs: few,
-        labels: few,
-    }
-}
-
 // No pair: two summaries of three zeros.
 fn none_got() -> Got
     ensures { result ≡ none_got }
 {
     Got {
-        told: outcome::plain(outcome::NO_PAIR),
-        sums: no_sums(),
+        told: Outcome::NoPair.plain(),
+        sums: Sums::NONE,
         n: 2,
     }
 }
@@ -64,9 +52,9 @@ fn got_of(x: Ways) -> Got
 {
     let p = x.first;
     let q = x.second;
-    let one = summary::with(no_sums(), 0, p.length, p.arcs as u16, 0);
+    let one = summary::with(Sums::NONE, 0, p.length, p.arcs as u16, 0);
     Got {
-        told: outcome::plain(outcome::FOUND),
+        told: Outcome::Found.plain(),
         sums: summary::with(one, 1, q.length, q.arcs as u16, 0),
         n: 2,
     }
@@ -84,11 +72,11 @@ pub(crate) fn all(table: &[u8], closed: &[u8], ask: Ask, area: &mut [u32], room:
     let goal = ask.goal;
     if prepare(table, closed, nodes, s, goal, room) {
         let x = pair_walks::pair(table, closed, nodes, s, goal, room, area);
-        words::fill::fill8(room, 0);
+        words::fill::fill(room, 0);
         return got_of(x);
     }
     let end = 2 * (nodes as usize - 1);
-    words::fill::fill32_part(area, 0, end, labels::field::NONE);
-    words::fill::fill8(room, 0);
+    words::fill::fill_part(area, 0, end, labels::field::NONE);
+    words::fill::fill(room, 0);
     none_got()
 }

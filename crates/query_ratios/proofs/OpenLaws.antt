@@ -7,7 +7,7 @@ use lib.ListN.{length, replicate}
 use Rattle.net.specs.Route.{overlap}
 use Rattle.search_ask.specs.declared.Ask.{Ask}
 use Rattle.search_ask.specs.Ask.{net_for}
-use Rattle.ratios.specs.declared.Fraction.{Fraction}
+use Rattle.products.specs.declared.Fraction.{Fraction}
 use Rattle.ratios.specs.declared.Ratios.{Ratios}
 use Rattle.ratios.specs.Ratios.{quotient, share_with, greater_of, greatest_from, no_share, detour, ratios_from, no_ratios, ratios_for}
 

@@ -19,10 +19,12 @@ use Rattle.query_rounds.specs.Area.{area_with}
 use Rattle.query_rounds.specs.Finished.{Finished}
 use Rattle.query_rounds.specs.Progress.{Progress, progress, as_record, answered_in, last_round, to_come, made_in, Underway, outcome_at}
 use Rattle.query_rounds.specs.declared.Got.{Got}
+use Rattle.query_rounds.specs.declared.Stage.{Stage}
+use Rattle.query_rounds.specs.declared.Stage.TheVariants.{GoesOn, Found, Fewer, NoRoom}
 use Rattle.query_rounds.proofs.SumsLaws.{shows_first}
 
 abbrev pub at_start : Progress
-at_start = progress 0 0 (replicate most_routes 0) (replicate most_routes 0) (replicate most_routes 0)
+at_start = progress 0 GoesOn (replicate most_routes 0) (replicate most_routes 0) (replicate most_routes 0)
 
 pub underway-start : (q : Query) (w k : ℕ) (area : List ℕ) → 1 ≤ k → ((j : ℕ) → j < k → slot w j area ≡ replicate w no_number) → Underway q w k area at_start
 unfolding answered_in earlier_in up_from
@@ -74,34 +76,29 @@ rounds-few q (suc k) earlier = go (ending q earlier) (λ p. rounds-few q k (earl
     go refused below = omega arith
 
 -- what the last round tells, after r answered ones
-told-last : (s : ℕ) (x : Progress) → s ≢ 0 → told (1 + x.r) (last_round s x) ≡ outcome_at s x.r
+told-last : (s : Stage) (x : Progress) → s ≢ GoesOn → told (1 + x.r) (last_round s x) ≡ outcome_at s x.r
 unfolding told
-told-last zero x h = absurd (h refl)
-told-last (suc zero) x h = refl
-told-last (suc (suc zero)) x h = refl
-told-last (suc (suc (suc s))) x h =
+told-last GoesOn x h = absurd (h refl)
+told-last Found x h = refl
+told-last Fewer x h = refl
+told-last NoRoom x h =
     let e : 1 + x.r ≡ x.r + 1 = omega arith in
     ap {B = Told} (λ n. beside room n) e
 
-answers-last : (s : ℕ) (x : Progress) → answers (last_round s x) ≡ []
+answers-last : (s : Stage) (x : Progress) → answers (last_round s x) ≡ []
 unfolding answers
-answers-last zero x = refl
-answers-last (suc zero) x = refl
-answers-last (suc (suc zero)) x = refl
-answers-last (suc (suc (suc s))) x = refl
+answers-last GoesOn x = refl
+answers-last Found x = refl
+answers-last Fewer x = refl
+answers-last NoRoom x = refl
 
-none-to-come : (s : ℕ) (q : Query) (k : ℕ) (e : List (List ℕ)) (x : Progress) → s ≢ 0 → to_come s q k e x ≡ []
-none-to-come zero q k e x h = absurd (h refl)
-none-to-come (suc s) q k e x h = refl
+none-to-come : (s : Stage) (q : Query) (k : ℕ) (e : List (List ℕ)) (x : Progress) → s ≢ GoesOn → to_come s q k e x ≡ []
+none-to-come GoesOn q k e x h = absurd (h refl)
+none-to-come Found q k e x h = refl
+none-to-come Fewer q k e x h = refl
+none-to-come NoRoom q k e x h = refl
 
--- a stage after those of an answer and of none is a refusal
-pub outcome-refused : (s r : ℕ) → s ≢ 0 → s ≢ 1 → s ≢ 2 → outcome_at s r ≡ beside room (r + 1)
-outcome-refused zero r a b c = absurd (a refl)
-outcome-refused (suc zero) r a b c = absurd (b refl)
-outcome-refused (suc (suc zero)) r a b c = absurd (c refl)
-outcome-refused (suc (suc (suc s))) r a b c = refl
-
-pub finished : (q : Query) (w k : ℕ) (labels area₀ area : List ℕ) (x : Progress) (g : Got) (labels' : List ℕ) → k ≤ most_routes → Underway q w k area x → x.stage ≢ 0
+pub finished : (q : Query) (w k : ℕ) (labels area₀ area : List ℕ) (x : Progress) (g : Got) (labels' : List ℕ) → k ≤ most_routes → Underway q w k area x → x.stage ≢ GoesOn
     → area ≡ area_with w k area₀ (earlier_in w x.r area) → g.told ≡ outcome_at x.stage x.r → g.sums ≡ x.sums → g.n ≡ k → labels' ≡ replicate (length labels) 0 → Finished q w k labels area₀ g labels' area
 unfolding answered_in earlier_in
 finished q w k labels area₀ area x g labels' h u late slots tells sums all cleared =

@@ -32,8 +32,10 @@ use Rattle.round.proofs.EarlierLaws.{length-slot_of, answered-short, here, there
 use Rattle.query_rounds.specs.Area.{area_with}
 use Rattle.summary.specs.declared.Summary.{Summary}
 use Rattle.summary.specs.Sums.{set_entry}
-use Rattle.query_rounds.specs.Progress.{Progress, progress, as_record, answered_in, last_round, to_come, made_in, Underway, Slotted, Stepped, after_of}
+use Rattle.query_rounds.specs.Progress.{Progress, progress, as_record, answered_in, last_round, to_come, made_in, Underway, Slotted, Stepped, to_end, after_of}
 use Rattle.query_rounds.specs.declared.Added.{Added}
+use Rattle.query_rounds.specs.declared.Stage.{Stage}
+use Rattle.query_rounds.specs.declared.Stage.TheVariants.{GoesOn, Found, Fewer, NoRoom}
 use Rattle.query_rounds.proofs.AreaLaws.{area-more}
 use Rattle.query_rounds.proofs.SumsLaws.{Shows, shows_more}
 
@@ -79,7 +81,7 @@ pub record Stepping (q : Query) (k : ℕ) (area : List ℕ) (x : Progress) : Typ
   pub k-most : k ≤ most_routes
   pub room : k * (q.net.nodes - 1) ≤ length area
   pub underway : Underway q (q.net.nodes - 1) k area x
-  pub at : x.stage ≡ 0
+  pub at : x.stage ≡ GoesOn
 
 -- a length set past the earlier ones changes none of them
 earlier-set : (arcs : List Arc) (w r : ℕ) (area lens : List ℕ) (v : ℕ) → Earlier arcs w r area lens → Earlier arcs w r area (set lens r v)
@@ -176,13 +178,13 @@ module _ (q : Query) (k : ℕ) (area : List ℕ) (x : Progress) (on : Stepping q
     abbrev row : Summary
     row = record { length = l; arcs = m; labels = n }
 
-    next : ℕ → Progress
+    next : Stage → Progress
     next s = record { r = x.r + 1; stage = s; sums = set_entry x.sums x.r row }
 
     earlier-next : earlier_in w (x.r + 1) area' ≡ earlier_in w x.r area ++ (p ∷ [])
     earlier-next = ap (earlier_in w (x.r + 1)) after ∙ earlier_more q (earlier_in w x.r area) on.valid on.few-arcs p n found x.r area slots-room
 
-    answered-next : (s : ℕ) → answered_in w area' (next s) ≡ answered_in w area x ++ (answered p n ∷ [])
+    answered-next : (s : Stage) → answered_in w area' (next s) ≡ answered_in w area x ++ (answered p n ∷ [])
     unfolding answered_in next
     answered-next s =
         let counts = set x.sums.labels x.r n in
@@ -199,13 +201,13 @@ module _ (q : Query) (k : ℕ) (area : List ℕ) (x : Progress) (on : Stepping q
         (subst (λ y. Earlier q.net.arcs w (x.r + 1) (area_after w x.r area (answered p n)) (set x.sums.length x.r y)) (sym len_is)
         (earlier-kept q (earlier_in w x.r area) on.valid on.few-arcs p n found x.r area slots-room x.sums.length on.underway.earlier (omega (arith, below, on.k-most)) (omega (arith, on.underway.rows.0, below)) on.nodes-most on.len-most))
 
-    shows-next : (s : ℕ) → Shows q (next s).sums (answered_in w area x ++ (answered p n ∷ []))
+    shows-next : (s : Stage) → Shows q (next s).sums (answered_in w area x ++ (answered p n ∷ []))
     unfolding next summary
     shows-next s =
         shows_more q x.sums (answered_in w area x) x.r row (answered p n) shows-now (length-answered_in w area x) (omega (arith, below, on.k-most)) on.underway.rows.0 on.underway.rows.1 on.underway.rows.2
         (cc (len_is, arcs-is))
 
-    -- in stage s, 0 or 1, made up of what was made and is to come
+    -- in whichever stage, made up of what was made and is to come
     made-next : answered_in w area x ++ (answered p n ∷ rounds q (k - (x.r + 1)) (earlier_in w x.r area ++ (p ∷ []))) ≡ rounds q k []
     unfolding go_on
     made-next = ap (λ ys. answered_in w area x ++ ys) (sym (this-round (answered p n) found)) ∙ to-come
@@ -224,27 +226,27 @@ module _ (q : Query) (k : ℕ) (area : List ℕ) (x : Progress) (on : Stepping q
         ∙ slot-other w x.r j area (slot_of w p) slots-room (length-slot_of w p (answered-short q (earlier_in w x.r area) on.valid on.few-arcs p n found)) (λ e. omega arith)
         ∙ on.underway.blank j (omega arith) b
 
-    stepped-found : x.r + 1 ≡ k → Stepped q w k area x area' (next 1)
+    stepped-found : x.r + 1 ≡ k → Stepped q w k area x area' (next Found)
     unfolding next rounds_by
     stepped-found e =
         let z : k - (x.r + 1) ≡ 0 = omega arith in
         record {
           long = long-next;
           underway = record {
-            going = λ i. absurd (omega arith);
+            going = λ i. absurd (cc);
             few = omega arith;
             rows = rows-kept row;
             earlier = earlier-held;
             blank = blank-next;
-            made = append-nil (answered_in w area' (next 1) ++ []) ∙ append-nil (answered_in w area' (next 1)) ∙ answered-next 1
+            made = append-nil (answered_in w area' (next Found) ++ []) ∙ append-nil (answered_in w area' (next Found)) ∙ answered-next Found
                 ∙ ap (λ i. answered_in w area x ++ (answered p n ∷ rounds q i (earlier_in w x.r area ++ (p ∷ [])))) (sym z) ∙ made-next;
-            sums = subst (Shows q (next 1).sums) (sym (append-nil (answered_in w area' (next 1)) ∙ answered-next 1)) (shows-next 1);
+            sums = subst (Shows q (next Found).sums) (sym (append-nil (answered_in w area' (next Found)) ∙ answered-next Found)) (shows-next Found);
           };
           slots = slotted;
-          less = omega (arith, on.at);
+          less = omega (arith, ap to_end on.at);
         }
 
-    stepped-on : x.r + 1 ≢ k → Stepped q w k area x area' (next 0)
+    stepped-on : x.r + 1 ≢ k → Stepped q w k area x area' (next GoesOn)
     unfolding next
     stepped-on ne =
         record {
@@ -255,31 +257,31 @@ module _ (q : Query) (k : ℕ) (area : List ℕ) (x : Progress) (on : Stepping q
             rows = rows-kept row;
             earlier = earlier-held;
             blank = blank-next;
-            made = ap₂ ◌++◌ (append-nil (answered_in w area' (next 0)) ∙ answered-next 0) (ap (rounds q (k - (x.r + 1))) earlier-next)
+            made = ap₂ ◌++◌ (append-nil (answered_in w area' (next GoesOn)) ∙ answered-next GoesOn) (ap (rounds q (k - (x.r + 1))) earlier-next)
                 ∙ append_assoc (answered_in w area x) (answered p n ∷ []) (rounds q (k - (x.r + 1)) (earlier_in w x.r area ++ (p ∷ [])))
                 ∙ made-next;
-            sums = subst (Shows q (next 0).sums) (sym (append-nil (answered_in w area' (next 0)) ∙ answered-next 0)) (shows-next 0);
+            sums = subst (Shows q (next GoesOn).sums) (sym (append-nil (answered_in w area' (next GoesOn)) ∙ answered-next GoesOn)) (shows-next GoesOn);
           };
           slots = slotted;
-          less = omega (arith, below, on.at);
+          less = omega (arith, below, ap to_end on.at);
         }
 
-    pub stepped-answer : Stepped q w k area x area' (record { r = x.r + 1; stage = cond (eqb (x.r + 1) k) 1 0; sums = set_entry x.sums x.r row })
+    pub stepped-answer : Stepped q w k area x area' (record { r = x.r + 1; stage = cond (eqb (x.r + 1) k) Found GoesOn; sums = set_entry x.sums x.r row })
     unfolding next
     stepped-answer = go (eqb (x.r + 1) k) refl
       where
-        go : (b : Bool) → eqb (x.r + 1) k ≡ b → Stepped q w k area x area' (record { r = x.r + 1; stage = cond b 1 0; sums = set_entry x.sums x.r row })
+        go : (b : Bool) → eqb (x.r + 1) k ≡ b → Stepped q w k area x area' (record { r = x.r + 1; stage = cond b Found GoesOn; sums = set_entry x.sums x.r row })
         go true e = stepped-found (eqb-true (x.r + 1) k e)
         go false e = stepped-on (eqb-false (x.r + 1) k e)
 
   -- ---- none
 
   -- the last round ends the query: z is its ending, and c its label count
-  abbrev ended : ℕ → ℕ → Progress
+  abbrev ended : Stage → ℕ → Progress
   ended s c = record { r = x.r; stage = s; sums = set_entry x.sums x.r (record { length = 0; arcs = 0; labels = c }) }
 
-  module _ (z : Ending) (c s : ℕ) (found : ending q (earlier_in w x.r area) ≡ z) (stops : go_on z (λ p. rounds q (k - (x.r + 1)) (earlier_in w x.r area ++ (p ∷ []))) ≡ z ∷ [])
-      (late : 1 ≤ s) (last : last_round s (ended s c) ≡ z ∷ []) (none-come : (e : List (List ℕ)) → to_come s q k e (ended s c) ≡ []) (shows : as_record (summary q z) ≡ record { length = 0; arcs = 0; labels = c }) where
+  module _ (z : Ending) (c : ℕ) (s : Stage) (found : ending q (earlier_in w x.r area) ≡ z) (stops : go_on z (λ p. rounds q (k - (x.r + 1)) (earlier_in w x.r area ++ (p ∷ []))) ≡ z ∷ [])
+      (late : to_end s ≡ 0) (last : last_round s (ended s c) ≡ z ∷ []) (none-come : (e : List (List ℕ)) → to_come s q k e (ended s c) ≡ []) (shows : as_record (summary q z) ≡ record { length = 0; arcs = 0; labels = c }) where
     made-over : made_in w area (ended s c) ≡ answered_in w area x ++ (z ∷ [])
     unfolding answered_in
     made-over = ap₂ ◌++◌ (answered-kept c) last
@@ -290,7 +292,7 @@ module _ (q : Query) (k : ℕ) (area : List ℕ) (x : Progress) (on : Stepping q
         (record {
           long = refl;
           underway = record {
-            going = λ i. absurd (omega arith);
+            going = λ i. absurd (omega (arith, late, ap to_end i));
             few = on.underway.few;
             rows = rows-kept (record { length = 0; arcs = 0; labels = c });
             earlier = earlier-set q.net.arcs w x.r area x.sums.length 0 on.underway.earlier;
@@ -302,25 +304,25 @@ module _ (q : Query) (k : ℕ) (area : List ℕ) (x : Progress) (on : Stepping q
                 on.underway.rows.0 on.underway.rows.1 on.underway.rows.2 shows);
           };
           slots = λ b g. g;
-          less = omega (arith, on.at);
+          less = omega (arith, late, ap to_end on.at);
         })
 
   count_at : (c : ℕ) → get_or (set x.sums.labels x.r c) x.r 0 ≡ c
   count_at c = get_or-set_same x.sums.labels x.r c 0 (omega (arith, on.underway.rows.2, below, on.k-most))
 
   pub stepped-none : (n : ℕ) → NoAnswer n ≡ shown q (ending q (earlier_in w x.r area)) → (area' : List ℕ) → area' ≡ area_after w x.r area (ending q (earlier_in w x.r area))
-      → Stepped q w k area x area' (ended 2 n)
+      → Stepped q w k area x area' (ended Fewer n)
   unfolding go_on summary area_after
   stepped-none n ends area' is =
       let f = shown-none q (ending q (earlier_in w x.r area)) n ends in
-      stepped-over (unanswered n) n 2 f refl (omega arith) (ap (λ i. unanswered i ∷ []) (count_at n)) (λ e. refl) refl area' (is ∙ ap (area_after w x.r area) f) refl
+      stepped-over (unanswered n) n Fewer f refl refl (ap (λ i. unanswered i ∷ []) (count_at n)) (λ e. refl) refl area' (is ∙ ap (area_after w x.r area) f) refl
 
   pub stepped-refused : Refused ≡ shown q (ending q (earlier_in w x.r area)) → (area' : List ℕ) → area' ≡ area_after w x.r area (ending q (earlier_in w x.r area))
-      → Stepped q w k area x area' (ended 3 q.room)
+      → Stepped q w k area x area' (ended NoRoom q.room)
   unfolding go_on summary area_after
   stepped-refused ends area' is =
       let f = shown-refused q (ending q (earlier_in w x.r area)) ends in
-      stepped-over refused q.room 3 f refl (omega arith) refl (λ e. refl) refl area' (is ∙ ap (area_after w x.r area) f) refl
+      stepped-over refused q.room NoRoom f refl refl refl (λ e. refl) refl area' (is ∙ ap (area_after w x.r area) f) refl
 
   -- ---- whichever it was
 

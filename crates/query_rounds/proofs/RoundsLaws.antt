@@ -16,6 +16,8 @@ use Rattle.round_label.proofs.StageLaws.{query-same}
 use Rattle.query_rounds.specs.Finished.{Finished}
 use Rattle.query_rounds.specs.Progress.{Progress, progress, Zeros, Underway, Slotted, Stepped, outcome_at}
 use Rattle.query_rounds.specs.declared.Got.{Got}
+use Rattle.query_rounds.specs.declared.Stage.{Stage}
+use Rattle.query_rounds.specs.declared.Stage.TheVariants.{GoesOn}
 use Rattle.query_rounds.proofs.AreaLaws.{area-blank, blank-at}
 use Rattle.query_rounds.proofs.FinishLaws.{at_start, underway-start, finished}
 
@@ -33,23 +35,23 @@ module _ (ask : Ask) (t closed : List ℕ) (k : ℕ) (l₀ a₀ : List ℕ) wher
     gone-zeros =
         record { underway = underway-start (query_for ask t closed l₀) (width ask) k a₀ h (blank-at (width ask) k b a₀ e); labels-long = refl; area-long = refl; slots = λ b e. e }
 
-    pub gone-start : (lens arcs labels : List ℕ) → Zeros lens arcs labels → Gone (query_for ask t closed l₀) (width ask) k l₀ a₀ l₀ a₀ (progress 0 0 lens arcs labels)
+    pub gone-start : (lens arcs labels : List ℕ) → Zeros lens arcs labels → Gone (query_for ask t closed l₀) (width ask) k l₀ a₀ l₀ a₀ (progress 0 GoesOn lens arcs labels)
     gone-start lens arcs labels z =
-        subst (λ v. Gone (query_for ask t closed l₀) (width ask) k l₀ a₀ l₀ a₀ (progress 0 0 v arcs labels)) (sym z.0)
-        (subst (λ v. Gone (query_for ask t closed l₀) (width ask) k l₀ a₀ l₀ a₀ (progress 0 0 (replicate most_routes 0) v labels)) (sym z.1)
-        (subst (λ v. Gone (query_for ask t closed l₀) (width ask) k l₀ a₀ l₀ a₀ (progress 0 0 (replicate most_routes 0) (replicate most_routes 0) v)) (sym z.2) gone-zeros))
+        subst (λ v. Gone (query_for ask t closed l₀) (width ask) k l₀ a₀ l₀ a₀ (progress 0 GoesOn v arcs labels)) (sym z.0)
+        (subst (λ v. Gone (query_for ask t closed l₀) (width ask) k l₀ a₀ l₀ a₀ (progress 0 GoesOn (replicate most_routes 0) v labels)) (sym z.1)
+        (subst (λ v. Gone (query_for ask t closed l₀) (width ask) k l₀ a₀ l₀ a₀ (progress 0 GoesOn (replicate most_routes 0) (replicate most_routes 0) v)) (sym z.2) gone-zeros))
 
   module _ (l a : List ℕ) (x : Progress) (g : Gone (query_for ask t closed l₀) (width ask) k l₀ a₀ l a x) where
-    -- as the step finds it, in stage 0
-    abbrev going : ℕ → Progress
+    -- as the step finds it, while it goes on
+    abbrev going : Stage → Progress
     going s = record { r = x.r; stage = s; sums = x.sums }
 
-    pub gone-underway : x.stage ≡ 0 → Underway (query_for ask t closed l) (width ask) k a (going 0)
+    pub gone-underway : x.stage ≡ GoesOn → Underway (query_for ask t closed l) (width ask) k a (going GoesOn)
     gone-underway z =
-        subst (λ q. Underway q (width ask) k a (going 0)) (query-same ask t closed l₀ l (sym g.labels-long))
+        subst (λ q. Underway q (width ask) k a (going GoesOn)) (query-same ask t closed l₀ l (sym g.labels-long))
         (subst (λ s. Underway (query_for ask t closed l₀) (width ask) k a (going s)) z g.underway)
 
-    module _ (l' a' : List ℕ) (y : Progress) (long : length l' ≡ length l) (s : Stepped (query_for ask t closed l) (width ask) k a (going 0) a' y) where
+    module _ (l' a' : List ℕ) (y : Progress) (long : length l' ≡ length l) (s : Stepped (query_for ask t closed l) (width ask) k a (going GoesOn) a' y) where
       pub gone-step : Gone (query_for ask t closed l₀) (width ask) k l₀ a₀ l' a' y
       gone-step =
           record {
@@ -59,7 +61,7 @@ module _ (ask : Ask) (t closed : List ℕ) (k : ℕ) (l₀ a₀ : List ℕ) wher
             slots = λ b e. s.slots b (g.slots b e);
           }
 
-    pub gone-end : (b : List ℕ) → k ≤ most_routes → a₀ ≡ patch 0 (k * (width ask)) b (replicate (k * (width ask) - 0) no_number) → x.stage ≢ 0
+    pub gone-end : (b : List ℕ) → k ≤ most_routes → a₀ ≡ patch 0 (k * (width ask)) b (replicate (k * (width ask) - 0) no_number) → x.stage ≢ GoesOn
         → (l' : List ℕ) → l' ≡ replicate (length l) 0 → (r : Got) → r.told ≡ outcome_at x.stage x.r → r.sums ≡ x.sums → r.n ≡ k → Finished (query_for ask t closed l₀) (width ask) k l₀ b r l' a
     unfolding earlier_in up_from
     gone-end b h e late l' z r tells sums all =

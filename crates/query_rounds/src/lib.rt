@@ -1,7 +1,7 @@
 // The rounds of a query, one after the other.
 #![tactic(auto)]
 
-ghost use Rattle.std.specs.Prelude.{◌≡◌, cond, ◌≢◌, ◌<◌, ◌≤◌, eqb, length, set};
+ghost use Rattle.std.specs.Prelude.{◌≡◌, cond, ◌<◌, ◌≤◌, eqb, length, set};
 ghost use Rattle.net.specs.Limits.{most_routes};
 ghost use Rattle.search_ask.specs.Ask.{query_for, width};
 ghost use Rattle.query_rounds.specs.Progress.{
@@ -13,9 +13,10 @@ ghost use Rattle.query_rounds.specs.Progress.{
   progress,
   Zeros,
 };
+ghost use Rattle.query_rounds.specs.declared.Stage.TheVariants.{GoesOn, Found};
 ghost use Rattle.query_rounds.specs.Finished.{Finished};
 
-use outcome::Told;
+use outcome::{Outcome, Refusal, Told};
 use round::Ended;
 use search_ask::Ask;
 use summary::{Summary, Sums};
@@ -28,34 +29,50 @@ pub struct Got {
     pub n: usize,
 }
 
+impl From<Refusal> for Got {
+    ghost use Rattle.std.specs.Prelude.{◌≡◌};
+    ghost use Rattle.outcome.specs.Outcome.{told_of};
+
+    ghost from_gives = { λ refusal got. (got.told ≡ told_of refusal) × (got.n ≡ 0) };
+
+    fn from(refusal: Refusal) -> Got {
+        Got {
+            told: Told::from(refusal),
+            sums: Sums::NONE,
+            n: 0,
+        }
+    }
+}
+
+// Where a query is: it goes on, or it ends with all its routes, with fewer, or refused for room.
+#[derive(Clone, Copy, Debug, PartialEq, Eq)]
+pub enum Stage {
+    GoesOn,
+    Found,
+    Fewer,
+    NoRoom,
+}
+
 // How many rounds were answered, and the stage.
 #[derive(Clone, Copy)]
 pub struct Stand {
     pub r: usize,
-    pub stage: u8,
+    pub stage: Stage,
 }
 
 // What a round adds to the progress: the new number of answers, the stage, and its summary.
 #[derive(Clone, Copy)]
 struct Added {
     r: usize,
-    stage: u8,
+    stage: Stage,
     row: Summary,
 }
 
-pub const GOING: u8 = 0;
-
-const FOUND: u8 = 1;
-
-const FEWER: u8 = 2;
-
-const REFUSED: u8 = 3;
-
 // The stage after r answers.
-fn stage_after(r: usize, k: usize) -> u8
-    ensures { result ≡ cond (eqb r k) 1 0 }
+fn stage_after(r: usize, k: usize) -> Stage
+    ensures { result ≡ cond (eqb r k) Found GoesOn }
 {
-    if r == k { FOUND } else { GOING }
+    if r == k { Stage::Found } else { Stage::GoesOn }
 }
 
 // What a round that ended so adds to a progress of r answers; `room` is the room for labels.
@@ -74,8 +91,8 @@ fn after(e: Ended, r: usize, k: usize, room: usize) -> Added
             },
         },
         Ended::NoAnswer(n) => Added {
-            r: r,
-            stage: FEWER,
+            r,
+            stage: Stage::Fewer,
             row: Summary {
                 length: 0,
                 arcs: 0,
@@ -83,8 +100,8 @@ fn after(e: Ended, r: usize, k: usize, room: usize) -> Added
             },
         },
         Ended::Refused => Added {
-            r: r,
-            stage: REFUSED,
+            r,
+            stage: Stage::NoRoom,
             row: Summary {
                 length: 0,
                 arcs: 0,
@@ -123,11 +140,11 @@ pub fn step(
 ) -> Stand
     requires { (Wanted ask table.now k labels.old area.old)
         × (Underway (query_for ask table.now closed.now labels.old) (width ask) k
-        area.old (progress r 0 lens.old arcs.old counts.old)) }
+        area.old (progress r GoesOn lens.old arcs.old counts.old)) }
     ensures { (length labels.new ≡ length labels.old)
         × (Stepped (query_for ask table.now closed.now
         labels.old) (width ask) k area.old
-        (progress r 0 lens.old arcs.old counts.old)
+        (progress r GoesOn lens.old arcs.old counts.old)
         area.new
         (progress result.r result.stage lens.new arcs.new counts.new)) }
 {
@@ -141,19 +158,14 @@ pub fn step(
 }
 
 // What the stage that ends a query tells after r answers.
-fn tell(stage: u8, r: usize) -> Told
-    requires { (r ≤ most_routes) × (stage ≢ 0) }
+fn tell(stage: Stage, r: usize) -> Told
+    requires { r ≤ most_routes }
     ensures { result ≡ outcome_at stage r }
 {
-    if stage == FOUND {
-        return outcome::plain(outcome::FOUND);
-    }
-    if stage == FEWER {
-        return outcome::plain(outcome::FEWER);
-    }
-    Told {
-        outcome: outcome::ROOM,
-        number: r as u32 + 1,
+    match stage {
+        Stage::GoesOn | Stage::Found => Outcome::Found.plain(),
+        Stage::Fewer => Outcome::Fewer.plain(),
+        Stage::NoRoom => Outcome::Room.beside(r as u32 + 1),
     }
 }
 
@@ -187,11 +199,14 @@ pub fn all(
 {
     let w = ask.nodes as usize - 1;
     let end = k * w;
-    words::fill::fill32_part(area, 0, end, labels::field::NONE);
-    let mut x = Stand { r: 0, stage: GOING };
-    while x.stage == GOING {
+    words::fill::fill_part(area, 0, end, labels::field::NONE);
+    let mut x = Stand {
+        r: 0,
+        stage: Stage::GoesOn,
+    };
+    while let Stage::GoesOn = x.stage {
         x = step(table, closed, ask, k, labels, area, lens, arcs, counts, x.r);
     }
-    words::fill::fill8(labels, 0);
+    words::fill::fill(labels, 0);
     tell(x.stage, x.r)
 }

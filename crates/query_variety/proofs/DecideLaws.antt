@@ -3,25 +3,27 @@
 use mathlib.Core.Path.{◌≡◌, refl, sym, ap, subst, ◌∙◌}
 use mathlib.Core.Bool.{Bool, true, false, cond}
 use mathlib.Core.List.{List, []}
-use mathlib.Core.Logic.{◌⊎◌, inl, inr, ⊎_elim}
 use Prim.Native.Nat.{ℕ, ◌*◌, ◌≤◌}
 use native.Mathlib.Omega.{arith}
-use lib.Dec.{T, ltb, eqb, lt→ltb}
+use lib.Dec.{eqb}
 use lib.ListN.{length, replicate}
-use borrow.Author.Tests.{eqb-true, eqb-false, ne_eqb}
-use Rattle.lists.proofs.Cases.{cases, order}
-use Rattle.lists.proofs.TestLaws.{or_l, or_r}
+use borrow.Author.Tests.{ne_eqb}
+use Rattle.std.proofs.lemmas.Bool.{or_parts, ltb-false}
 use Rattle.outcome.specs.declared.Told.{Told}
-use Rattle.outcome.specs.Outcome.{buffers, closures, range_out, plain}
+use Rattle.outcome.specs.declared.Refusal.{Refusal}
+use Rattle.outcome.specs.Outcome.{buffers, closures, range_out, plain, told_of}
+use Rattle.outcome.proofs.OutcomeLaws.{refused_not_zero}
+use Rattle.net.specs.Limits.{most_nodes, most_routes}
 use Rattle.net.specs.Outcome.{refusal}
 use Rattle.table.specs.Fault.{table_fault, good}
-use Rattle.table.proofs.FaultLaws.{told-good}
+use Rattle.table.proofs.FaultLaws.{told-good, good-size}
 use Rattle.closures.specs.Closed.{wrong}
 use Rattle.search_ask.specs.declared.Ask.{Ask}
 use Rattle.search_ask.specs.Ask.{query_for}
 use Rattle.working_room.specs.Field.{room_bytes}
 use Rattle.query_rounds.specs.Area.{area_with}
-use Rattle.query.proofs.DecideLaws.{Passed}
+use Rattle.query.specs.Query.{refusal_closed}
+use Rattle.query.proofs.DecideLaws.{Passed, passed, on_from, past, closed-none, closed-some}
 use Rattle.variety.specs.Variety.{range_wrong}
 use Rattle.query_variety.specs.declared.Wish.{Wish}
 use Rattle.query_variety.specs.Made.{list_after, Left}
@@ -38,10 +40,6 @@ refusal_is i k = refl
 
 -- ---- 10
 
--- a test that does not fire
-quiet : (a b : ℕ) (x : Bool) → (T (ltb a b) → T x) → x ≡ false → b ≤ a
-quiet a b x f e = ⊎_elim (λ h. h) (λ h. absurd (subst T e (f (lt→ltb a b h)))) (order b a)
-
 -- no buffer is too small
 pub record Large (i : Input) : Type 0 where
   pub words : i.wish.k * width i ≤ length i.area
@@ -49,13 +47,7 @@ pub record Large (i : Input) : Type 0 where
 
 large : (i : Input) → too_small i ≡ false → Large i
 unfolding too_small
-large i e =
-    let words = ltb (length i.area) (i.wish.k * width i) in
-    let room = ltb (length i.work) (i.ask.nodes * room_bytes) in
-    record {
-      words = quiet (length i.area) (i.wish.k * width i) (too_small i) (or_l words room) e;
-      room = quiet (length i.work) (i.ask.nodes * room_bytes) (too_small i) (or_r words room) e;
-    }
+large i e = let room = or_parts _ _ e in record { words = ltb-false _ _ room.0; room = ltb-false _ _ room.1 }
 
 -- ---- what decides
 
@@ -65,24 +57,26 @@ module _ (i : Input) where
   unfolding refused_of
   refused-table ne = rw (ne_eqb _ 0 ne)
 
+  pub faulty : (x : Refusal) → told_of x ≡ table_fault i.ask.nodes i.table → told_of x ≡ refused_of i
+  faulty x e = e ∙ sym (refused-table (λ z. refused_not_zero x (ap (λ y. y.outcome) e ∙ z)))
+
   module _ (ok : table_fault i.ask.nodes i.table ≡ good) where
-    pub refused-closures : wrong i.table i.closed ≡ true → refused_of i ≡ plain closures
-    unfolding refused_of
-    refused-closures e = rw (ok, e)
+    -- what the bounds of the buffers' sizes need
+    pub limited : refusal (query_of i) i.wish.k ≡ 0 → (1 ≤ i.ask.nodes) × (i.ask.nodes ≤ most_nodes) × (i.wish.k ≤ most_routes)
+    limited e = let size = good-size _ _ ok in (size.0, size.1, (passed (plainly i) ok e).k-most)
 
-    module _ (bytes : wrong i.table i.closed ≡ false) where
-      pub refused-number : (n : ℕ) → refusal (query_of i) i.wish.k ≡ n → eqb n 0 ≡ false → refused_of i ≡ plain n
+    pub numbered : (x : Refusal) → told_of x ≡ refusal_closed i.table i.closed i.ask i.wish.k → told_of x ≡ refused_of i
+    unfolding refused_of refusal
+    numbered x e = rw ok (sym (closed-some i.table i.closed i.ask i.wish.k x e _))
+
+    module _ (numbers : (refusal_closed i.table i.closed i.ask i.wish.k).outcome ≡ 0) where
+      pub refused-room : too_small i ≡ true → refused_of i ≡ plain buffers
       unfolding refused_of
-      refused-number n e some = rw (ok, bytes, e, some)
+      refused-room s = let none = closed-none i.table i.closed i.ask i.wish.k numbers in rw (ok, none.0, refusal_is i i.wish.k ∙ none.1, s)
 
-      module _ (numbers : refusal (query_of i) i.wish.k ≡ 0) where
-        pub refused-room : too_small i ≡ true → refused_of i ≡ plain buffers
-        unfolding refused_of
-        refused-room s = rw (ok, bytes, numbers, s)
-
-        pub refused-range : too_small i ≡ false → (b : Bool) → range_wrong i.wish.c i.wish.d ≡ b → refused_of i ≡ cond b (plain range_out) good
-        unfolding refused_of
-        refused-range s b e = rw (ok, bytes, numbers, s, e)
+      pub refused-range : too_small i ≡ false → (b : Bool) → range_wrong i.wish.c i.wish.d ≡ b → refused_of i ≡ cond b (plain range_out) good
+      unfolding refused_of
+      refused-range s b e = let none = closed-none i.table i.closed i.ask i.wish.k numbers in rw (ok, none.0, refusal_is i i.wish.k ∙ none.1, s, e)
 
 -- what the listing asks, where nothing refuses
 pub record Reached (i : Input) : Type 0 where
@@ -95,45 +89,18 @@ pub record Reached (i : Input) : Type 0 where
 pub reached : (i : Input) → (refused_of i).outcome ≡ 0 → Reached i
 unfolding refused_of
 reached i zero_is =
-    go (cases (eqb (table_fault i.ask.nodes i.table).outcome 0)) (cases (wrong i.table i.closed)) (cases (eqb (refusal (query_of i) i.wish.k) 0)) (cases (too_small i)) (cases (range_wrong i.wish.c i.wish.d))
-  where
-    Table : Bool → Type 0
-    Table b = eqb (table_fault i.ask.nodes i.table).outcome 0 ≡ b
-
-    Bytes : Bool → Type 0
-    Bytes b = wrong i.table i.closed ≡ b
-
-    Numbers : Bool → Type 0
-    Numbers b = eqb (refusal (query_of i) i.wish.k) 0 ≡ b
-
-    Range : Bool → Type 0
-    Range b = range_wrong i.wish.c i.wish.d ≡ b
-
-    twenty-two : Table true → Bytes false → Numbers true → too_small i ≡ false → Range true → ⊥
-    twenty-two a d b c r = let z : ◌≡◌ {A = ℕ} range_out 0 = rw (a, d, b, c, r) at zero_is in omega arith
-
-    ten : Table true → Bytes false → Numbers true → too_small i ≡ true → ⊥
-    ten a d b c = let z : ◌≡◌ {A = ℕ} buffers 0 = rw (a, d, b, c) at zero_is in omega arith
-
-    number : Table true → Bytes false → Numbers false → ⊥
-    number a d b = eqb-false _ _ b (rw (a, d, b) at zero_is)
-
-    fifteen : Table true → Bytes true → ⊥
-    fifteen a d = let z : ◌≡◌ {A = ℕ} closures 0 = rw (a, d) at zero_is in omega arith
-
-    all : Table true → Bytes false → Numbers true → too_small i ≡ false → Range false → Reached i
-    all a d b c r =
-        let ok = told-good i.ask.nodes i.table (eqb-true _ _ a) in
-        let e = eqb-true _ _ b in
-        record { none = refused-range i ok d e c false r; passed = Rattle.query.proofs.DecideLaws.passed (plainly i) ok e; large = large i c; range = r }
-
-    go : Table true ⊎ Table false → Bytes true ⊎ Bytes false → Numbers true ⊎ Numbers false → (too_small i ≡ true) ⊎ (too_small i ≡ false) → Range true ⊎ Range false → Reached i
-    go (inl a) (inr d) (inl b) (inr c) (inr r) = all a d b c r
-    go (inl a) (inr d) (inl b) (inr c) (inl r) = absurd (twenty-two a d b c r)
-    go (inl a) (inr d) (inl b) (inl c) r = absurd (ten a d b c)
-    go (inl a) (inr d) (inr b) c r = absurd (number a d b)
-    go (inl a) (inl d) b c r = absurd (fifteen a d)
-    go (inr a) d b c r = absurd (eqb-false _ _ a (rw a at zero_is))
+    let table = on_from (table_fault i.ask.nodes i.table) _ zero_is in
+    let bytes = past (wrong i.table i.closed) closures _ (omega arith) table.1 in
+    let numbers = on_from (plain (refusal (query_of i) i.wish.k)) _ bytes.1 in
+    let small = past (too_small i) buffers _ (omega arith) numbers.1 in
+    let range = past (range_wrong i.wish.c i.wish.d) range_out _ (omega arith) small.1 in
+    let ok = told-good i.ask.nodes i.table table.0 in
+    record {
+      none = rw (ok, bytes.0, numbers.0, small.0, range.0);
+      passed = passed (plainly i) ok numbers.0;
+      large = large i small.0;
+      range = range.0;
+    }
 
 -- the list does not decide
 pub refused-same : (i : Input) → refused_of (given i.table i.ask i.wish i.closed [] i.area i.work) ≡ refused_of i

@@ -1,9 +1,10 @@
 -- What the listing leaves is what the choice asks: the listed are simple routes, so none leaves a node twice. What is made then is what is due: for each of the three outcomes
 -- the reply computes, and the slots are those of the list, of the chosen, or blank.
 use mathlib.Core.Path.{◌≡◌, refl, sym, ap, ap₂, subst, ◌∙◌}
-use mathlib.Core.Logic.{◌⊎◌, inl, inr, ⊎_elim}
+use mathlib.Core.Logic.{◌⊎◌, inl, inr}
 use mathlib.Core.Bool.{Bool, true, false, not, ◌&&◌, cond}
 use mathlib.Core.Option.{Option, none, some}
+use Rattle.std.specs.Prelude.{Some}
 use mathlib.Core.List.Memᴰ
 use mathlib.Core.List.{List, [], ◌++◌, Memᴰ}
 use Prim.Native.Nat.{ℕ, zero, suc, ◌+◌, ◌-◌, ◌*◌, ◌/◌, ◌≤◌, ◌<◌}
@@ -102,7 +103,7 @@ blank nodes room room' h e =
 
 -- ---- the listing, in a part of the area
 
-pub listing : (t : List ℕ) (w bound : ℕ) (rs : List (List ℕ)) (l area room m path room₁ area' room' : List ℕ) (n : ℕ) → w ≤ length area → Lists t w bound rs l m n
+pub listing : (t : List ℕ) (w bound : ℕ) (rs : List (List ℕ)) (l area room m path room₁ area' room' : List ℕ) (n : Rattle.std.specs.Prelude.Option ℕ) → w ≤ length area → Lists t w bound rs l m n
     → length m ≡ length l → length path ≡ length (mid_of 0 (w - 0) area) → length room₁ ≡ length room → area' ≡ put_mid 0 (w - 0) area path → room' ≡ replicate (length room₁) 0
     → Listing t w bound rs l area room m area' room' n
 listing t w bound rs l area room m path room₁ area' room' n h lists e f g i j =
@@ -118,19 +119,15 @@ listing t w bound rs l area room m path room₁ area' room' n h lists e f g i j 
 
 -- ---- the listed
 
--- they are more than the slots, or they stand in them
-pub lists-full : (t : List ℕ) (w slots : ℕ) (rs : List (List ℕ)) (l m : List ℕ) (n : ℕ) → Lists t w slots rs l m n → slots < n → slots < length rs
-lists-full t w slots rs l m n h k = ⊎_elim (λ o. absurd (omega (arith, o.0))) (λ o. o.1) h
-
+-- they stand in the slots
 pub record Stand (t : List ℕ) (w slots : ℕ) (rs : List (List ℕ)) (l m : List ℕ) (n : ℕ) : Type 0 where
   pub few : n ≤ slots
   pub listed : Listed t w n m
   pub is : earlier_in w n m ≡ rs
   pub behind : drop (n * w) m ≡ drop (n * w) l
 
-pub lists-stand : (t : List ℕ) (w slots : ℕ) (rs : List (List ℕ)) (l m : List ℕ) (n : ℕ) → Lists t w slots rs l m n → n ≤ slots → Stand t w slots rs l m n
-lists-stand t w slots rs l m n h k =
-    ⊎_elim (λ o. record { few = o.0; listed = o.1; is = o.2; behind = o.3 }) (λ o. absurd (omega (arith, o.0))) h
+pub lists-stand : (t : List ℕ) (w slots : ℕ) (rs : List (List ℕ)) (l m : List ℕ) (n : ℕ) → Lists t w slots rs l m (Some n) → Stand t w slots rs l m n
+lists-stand t w slots rs l m n h = record { few = h.0; listed = h.1; is = h.2; behind = h.3 }
 
 module _ (t closed : List ℕ) (nodes s goal : ℕ) (ok : table_fault nodes t ≡ good) (below : s < nodes) (ne : s ≡ goal → ⊥) (c d w bound : ℕ) (few : w ≤ most_nodes) (l m : List ℕ) (n : ℕ)
     (h : Stand t w bound (near (net_of nodes t closed) s goal c d) l m n) where

@@ -1,5 +1,5 @@
 -- What is made of a list: the chosen in their slots, or every word blank.
-use Rattle.std.specs.Prelude.{◌≡◌, cond, List, ℕ, zero, suc, ◌/◌, ltb, length, drop, replicate}
+use Rattle.std.specs.Prelude.{◌≡◌, Option, cond, List, ℕ, zero, suc, ◌/◌, ltb, length, drop, replicate}
 use Rattle.outcome.specs.declared.Told.{Told}
 use Rattle.labels.specs.Field.{no_number}
 use Rattle.query_rounds.specs.Area.{area_with}
@@ -15,7 +15,7 @@ unfoldable pub slots_of : ℕ → ℕ → ℕ
 slots_of words w = cond (ltb most_listed (words / w)) most_listed (words / w)
 
 -- What the listing leaves, for the routes rs.
-pub record Listing (t : List ℕ) (w slots : ℕ) (rs : List (List ℕ)) (l area room m area' room' : List ℕ) (n : ℕ) : Type 0 where
+pub record Listing (t : List ℕ) (w slots : ℕ) (rs : List (List ℕ)) (l area room m area' room' : List ℕ) (n : Option ℕ) : Type 0 where
   pub lists : Lists t w slots rs l m n
   pub list-long : length m ≡ length l
   pub area-long : length area' ≡ length area

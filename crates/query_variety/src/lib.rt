@@ -5,10 +5,11 @@ mod made;
 
 ghost use Rattle.std.specs.Prelude.{◌≡◌, [], ◌≤◌};
 ghost use Rattle.net.specs.Limits.{most_nodes, most_routes};
+ghost use Rattle.outcome.specs.Outcome.{told_by};
 ghost use Rattle.variety.specs.Variety.{range_wrong};
 ghost use Rattle.query_variety.specs.Call.{given, input, too_small, refused_of, Replied};
 
-use outcome::Told;
+use outcome::{Outcome, Refusal, Told};
 use search_ask::Ask;
 
 pub const MOST_D: u32 = 1000;
@@ -22,59 +23,45 @@ pub struct Wish {
 }
 
 // Whether a buffer is too small; the list never is.
+#[tactic(auto, using(query::proofs::Tests::tests), unfolding(crate::specs::Call::too_small))]
 fn too_small(ask: Ask, wish: Wish, area: &[u32], work: &[u8]) -> bool
     requires { (1 ≤ ask.nodes) × (ask.nodes ≤ most_nodes) × (wish.k ≤ most_routes) }
     ensures { result ≡ too_small
         (given [] ask wish [] [] area.now work.now) }
 {
-    let nodes = ask.nodes as usize;
-    if area.len() < wish.k as usize * (nodes - 1) {
-        return true;
-    }
-    work.len() < nodes * working_room::NODE
+    query::few_slots(ask, wish.k, area) || work.len() < ask.nodes as usize * working_room::NODE
 }
 
 // 22: d outside its limits, or c above d.
+#[tactic(auto, using(query::proofs::Tests::tests), unfolding(variety::specs::Variety::range_wrong))]
 fn range_wrong(wish: Wish) -> bool
     ensures { result ≡ range_wrong wish.c wish.d }
 {
-    if wish.d < 1 {
-        return true;
-    }
-    if MOST_D < wish.d {
-        return true;
-    }
-    if wish.d < wish.c {
-        return true;
-    }
-    false
+    wish.d < 1 || MOST_D < wish.d || wish.d < wish.c
 }
 
-// The decisions before the listing: 13 and the records, 15, then 7 and 8, 10 and 22; 0 where the
-// routes are to be listed.
-fn refused(table: &[u8], ask: Ask, wish: Wish, closed: &[u8], area: &[u32], work: &[u8]) -> Told
-    ensures { result ≡ refused_of (given table.now ask wish closed.now []
+// The decisions before the listing: 13 and the records, 15, then 7 and 8, 10 and 22. Where none of
+// them refuses the routes are to be listed.
+fn refused(
+    table: &[u8],
+    ask: Ask,
+    wish: Wish,
+    closed: &[u8],
+    area: &[u32],
+    work: &[u8],
+) -> Result<(), Refusal>
+    ensures { told_by result ≡ refused_of (given table.now ask wish closed.now []
         area.now work.now) }
 {
-    let nodes = ask.nodes;
-    let told = table::fault::check(table, nodes);
-    if told.outcome != outcome::FOUND {
-        return told;
-    }
-    if closures::wrong(table, closed) {
-        return outcome::plain(outcome::CLOSURES);
-    }
-    let f = query::refusal(ask, wish.k);
-    if f != 0 {
-        return outcome::plain(f);
-    }
+    table::fault::check(table, ask.nodes)?;
+    query::refusal_closed(table, closed, ask, wish.k)?;
     if too_small(ask, wish, area, work) {
-        return outcome::plain(outcome::BUFFERS);
+        return Err(Refusal::plain(Outcome::Buffers));
     }
     if range_wrong(wish) {
-        return outcome::plain(outcome::RANGE);
+        return Err(Refusal::plain(Outcome::Range));
     }
-    told
+    Ok(())
 }
 
 // The answer to an ask.
@@ -91,9 +78,8 @@ fn decide(
         list.old area.old work.old) result list.new
         area.new work.new }
 {
-    let told = refused(table, ask, wish, closed, area, work);
-    if told.outcome != outcome::FOUND {
-        return told;
+    if let Err(refusal) = refused(table, ask, wish, closed, area, work) {
+        return Told::from(refusal);
     }
     made::all(table, closed, ask, wish, list, area, work)
 }
@@ -117,6 +103,6 @@ pub fn core(
         area.new work.new }
 {
     let ask = query::ask_of(nodes, s, goal, 0, 1);
-    let wish = Wish { k: k, c: c, d: d };
+    let wish = Wish { k, c, d };
     decide(table, ask, wish, closed, list, area, work)
 }

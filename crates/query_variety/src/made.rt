@@ -3,33 +3,30 @@ ghost use Rattle.std.specs.Prelude.{◌≡◌, false, ◌+◌, ◌-◌, ◌*◌,
 ghost use Rattle.words.specs.Part.{patch};
 ghost use Rattle.net.specs.Limits.{most_routes};
 ghost use Rattle.labels.specs.Field.{no_number};
-ghost use Rattle.outcome.specs.Outcome.{plain};
+ghost use Rattle.outcome.specs.Outcome.{plain, number_of};
 ghost use Rattle.search_ask.specs.Ask.{Accepted, net_for, width};
 ghost use Rattle.variety.specs.Variety.{near, range_wrong, variety_reply};
 ghost use Rattle.remaining.specs.Standing.{Roomy};
 ghost use Rattle.query_variety.specs.Made.{slots_of, Listing, Left};
 
 use crate::Wish;
-use outcome::Told;
+use outcome::{Outcome, Told};
 use search_ask::Ask;
 
 const MOST_LISTED: usize = 4294967295;
 
 // How many routes may be listed: as many as the list has whole slots of w words, and as the number
 // beside the outcome can tell.
+#[tactic(auto, using(query::proofs::Tests::tests), unfolding(crate::specs::Made::slots_of))]
 fn slots_of(words: usize, w: usize) -> usize
     requires { 1 ≤ w }
     ensures { result ≡ slots_of words w }
 {
-    let slots = words / w;
-    if MOST_LISTED < slots {
-        return MOST_LISTED;
-    }
-    slots
+    (words / w).min(MOST_LISTED)
 }
 
 // Lists the routes in range, in at most `slots` slots; the area's first slot holds one of them while
-// it is made. How many there are, or one more than the slots.
+// it is made. How many there are, or none where they are more than the slots.
 fn listed(
     table: &[u8],
     closed: &[u8],
@@ -39,7 +36,7 @@ fn listed(
     list: &mut [u32],
     area: &mut [u32],
     room: &mut [u8],
-) -> usize
+) -> Option<usize>
     requires { (Accepted ask table.now) × (range_wrong wish.c wish.d ≡ false)
         × (width ask ≤ length area.old) × (Roomy ask.nodes room.old)
         × (slots * width ask ≤ length list.old) }
@@ -67,20 +64,20 @@ fn listed(
         &mut area[0..w],
         room,
     );
-    words::fill::fill8(room, 0);
+    words::fill::fill(room, 0);
     n
 }
 
 // 23 or 24: every word of the list and of the slots to `end` is blank.
-fn none(outcome: u32, end: usize, list: &mut [u32], area: &mut [u32]) -> Told
+fn none(outcome: Outcome, end: usize, list: &mut [u32], area: &mut [u32]) -> Told
     requires { end ≤ length area.old }
-    ensures { (result ≡ plain outcome)
+    ensures { (result ≡ plain (number_of outcome))
         × (list.new ≡ replicate (length list.old) no_number)
         × (area.new ≡ patch 0 end area.old (replicate (end - 0) no_number)) }
 {
-    words::fill::fill32(list, labels::field::NONE);
-    words::fill::fill32_part(area, 0, end, labels::field::NONE);
-    outcome::plain(outcome)
+    words::fill::fill(list, labels::field::NONE);
+    words::fill::fill_part(area, 0, end, labels::field::NONE);
+    outcome.plain()
 }
 
 // The list and the chosen, or 23 or 24; the room is zero afterwards.
@@ -106,18 +103,13 @@ pub(crate) fn all(
     let w = nodes as usize - 1;
     let k = wish.k as usize;
     let slots = slots_of(list.len(), w);
-    let n = listed(table, closed, ask, wish, slots, list, area, room);
-    if slots < n {
-        return none(outcome::LIST_FULL, k * w, list, area);
-    }
+    let Some(n) = listed(table, closed, ask, wish, slots, list, area, room) else {
+        return none(Outcome::ListFull, k * w, list, area);
+    };
     if n < k {
-        return none(outcome::TOO_FEW, k * w, list, area);
+        return none(Outcome::TooFew, k * w, list, area);
     }
     near_pick::pick(table, nodes, list, w, n, k, area, room);
-    words::fill::fill8(room, 0);
-    let number = n as u32;
-    Told {
-        outcome: outcome::FOUND,
-        number: number,
-    }
+    words::fill::fill(room, 0);
+    Outcome::Found.beside(n as u32)
 }

@@ -1,17 +1,17 @@
 -- The decisions of a query for via routes in their order: those of the query itself, with 20 before 15. Where the call is refused everything is as it was; where it is
 -- not, the profile gives all that is due.
 use mathlib.Core.Path.{◌≡◌, refl, sym, ap, subst, ◌∙◌}
-use mathlib.Core.Bool.{Bool, true, false, not, ◌||◌, cond}
+use mathlib.Core.Bool.{Bool, true, false, cond}
 use mathlib.Core.List.{List, [], ◌++◌, map}
-use mathlib.Core.Logic.{◌⊎◌, inl, inr, ⊎_elim}
 use Prim.Native.Nat.{ℕ, ◌*◌, ◌≤◌}
 use native.Mathlib.Omega.{arith}
-use lib.Dec.{T, ltb, eqb, lt→ltb}
+use lib.Dec.{eqb}
 use lib.ListN.{length, drop, replicate}
-use borrow.Author.Tests.{eqb-true, eqb-false, ne_eqb}
-use Rattle.lists.proofs.Cases.{cases, order}
-use Rattle.lists.proofs.TestLaws.{or_l, or_r}
-use Rattle.outcome.specs.Outcome.{buffers, closures, second_table, plain}
+use borrow.Author.Tests.{ne_eqb}
+use Rattle.std.proofs.lemmas.Bool.{or_parts, ltb-false}
+use Rattle.outcome.specs.declared.Refusal.{Refusal}
+use Rattle.outcome.specs.Outcome.{buffers, closures, second_table, plain, told_of}
+use Rattle.outcome.proofs.OutcomeLaws.{refused_not_zero}
 use Rattle.net.specs.Outcome.{told, answers, summaries, refusal}
 use Rattle.table.specs.Fault.{table_fault, good}
 use Rattle.table.proofs.FaultLaws.{told-good, good-size}
@@ -25,7 +25,8 @@ use Rattle.query_rounds.specs.Area.{area_with}
 use Rattle.query_rounds.specs.Progress.{as_record}
 use Rattle.query_rounds.specs.declared.Got.{Got}
 use Rattle.via_rounds.specs.Profiled.{Profiling, Profiled}
-use Rattle.query.proofs.DecideLaws.{Passed}
+use Rattle.query.specs.Query.{refusal_closed}
+use Rattle.query.proofs.DecideLaws.{Passed, on_from, past, closed-none, closed-some}
 use Rattle.query_via.specs.Via.{Input, query_of, width, too_small, refused_of, reaches, rounds_of, tells_due, area_due, sums_due, work_due, given, Cored}
 use Rattle.query_via.specs.declared.Wish.{Wish}
 
@@ -44,10 +45,6 @@ refusal_is i = refl
 
 -- ---- 10
 
--- a test that does not fire
-quiet : (a b : ℕ) (x : Bool) → (T (ltb a b) → T x) → x ≡ false → b ≤ a
-quiet a b x f e = ⊎_elim (λ h. h) (λ h. absurd (subst T e (f (lt→ltb a b h)))) (order b a)
-
 -- no buffer is too small
 pub record Large (i : Input) : Type 0 where
   pub words : i.k * width i ≤ length i.area
@@ -57,14 +54,9 @@ pub record Large (i : Input) : Type 0 where
 large : (i : Input) → too_small i ≡ false → Large i
 unfolding too_small
 large i e =
-    let words = ltb (length i.area) (i.k * width i) in
-    let lent = ltb i.lent i.k in
-    let room = ltb (length i.work) (i.ask.nodes * room_bytes) in
-    record {
-      words = quiet (length i.area) (i.k * width i) (too_small i) (λ h. or_l (words || lent) room (or_l words lent h)) e;
-      lent = quiet i.lent i.k (too_small i) (λ h. or_l (words || lent) room (or_r words lent h)) e;
-      room = quiet (length i.work) (i.ask.nodes * room_bytes) (too_small i) (or_r (words || lent) room) e;
-    }
+    let room = or_parts _ _ e in
+    let lent = or_parts _ _ room.0 in
+    record { words = ltb-false _ _ lent.0; lent = ltb-false _ _ lent.1; room = ltb-false _ _ room.1 }
 
 -- ---- what decides
 
@@ -74,24 +66,22 @@ module _ (i : Input) where
   unfolding refused_of
   refused-table ne = rw (ne_eqb _ 0 ne)
 
+  pub faulty : (x : Refusal) → told_of x ≡ table_fault i.ask.nodes i.table → told_of x ≡ refused_of i
+  faulty x e = e ∙ sym (refused-table (λ z. refused_not_zero x (ap (λ y. y.outcome) e ∙ z)))
+
   module _ (ok : table_fault i.ask.nodes i.table ≡ good) where
     pub refused-second : wrong_second i.ask.nodes i.table i.second ≡ true → refused_of i ≡ plain second_table
     unfolding refused_of
     refused-second e = rw (ok, e)
 
     module _ (right : wrong_second i.ask.nodes i.table i.second ≡ false) where
-      pub refused-closures : wrong i.table i.closed ≡ true → refused_of i ≡ plain closures
+      pub numbered : (x : Refusal) → told_of x ≡ refusal_closed i.table i.closed i.ask i.k → told_of x ≡ refused_of i
+      unfolding refused_of refusal
+      numbered x e = rw (ok, right) (sym (closed-some i.table i.closed i.ask i.k x e _))
+
+      pub refused-room : (refusal_closed i.table i.closed i.ask i.k).outcome ≡ 0 → (b : Bool) → too_small i ≡ b → refused_of i ≡ cond b (plain buffers) good
       unfolding refused_of
-      refused-closures e = rw (ok, right, e)
-
-      module _ (bytes : wrong i.table i.closed ≡ false) where
-        pub refused-number : (n : ℕ) → refusal (query_of i) i.k ≡ n → eqb n 0 ≡ false → refused_of i ≡ plain n
-        unfolding refused_of
-        refused-number n e some = rw (ok, right, bytes, e, some)
-
-        pub refused-room : refusal (query_of i) i.k ≡ 0 → (b : Bool) → too_small i ≡ b → refused_of i ≡ cond b (plain buffers) good
-        unfolding refused_of
-        refused-room e b s = rw (ok, right, bytes, e, s)
+      refused-room e b s = let none = closed-none i.table i.closed i.ask i.k e in rw (ok, right, none.0, refusal_is i ∙ none.1, s)
 
 -- what the profile asks, where nothing refuses
 pub record Reached (i : Input) : Type 0 where
@@ -104,46 +94,18 @@ pub record Reached (i : Input) : Type 0 where
 pub reached : (i : Input) → (refused_of i).outcome ≡ 0 → Reached i
 unfolding refused_of
 reached i zero_is =
-    go (cases (eqb (table_fault i.ask.nodes i.table).outcome 0)) (cases (wrong_second i.ask.nodes i.table i.second)) (cases (wrong i.table i.closed))
-    (cases (eqb (refusal (query_of i) i.k) 0)) (cases (too_small i))
-  where
-    Table : Bool → Type 0
-    Table b = eqb (table_fault i.ask.nodes i.table).outcome 0 ≡ b
-
-    Second : Bool → Type 0
-    Second b = wrong_second i.ask.nodes i.table i.second ≡ b
-
-    Bytes : Bool → Type 0
-    Bytes b = wrong i.table i.closed ≡ b
-
-    Numbers : Bool → Type 0
-    Numbers b = eqb (refusal (query_of i) i.k) 0 ≡ b
-
-    ten : Table true → Second false → Bytes false → Numbers true → too_small i ≡ true → ⊥
-    ten a s d b c = let z : ◌≡◌ {A = ℕ} buffers 0 = rw (a, s, d, b, c) at zero_is in omega arith
-
-    number : Table true → Second false → Bytes false → Numbers false → ⊥
-    number a s d b = eqb-false _ _ b (rw (a, s, d, b) at zero_is)
-
-    fifteen : Table true → Second false → Bytes true → ⊥
-    fifteen a s d = let z : ◌≡◌ {A = ℕ} closures 0 = rw (a, s, d) at zero_is in omega arith
-
-    twenty : Table true → Second true → ⊥
-    twenty a s = let z : ◌≡◌ {A = ℕ} second_table 0 = rw (a, s) at zero_is in omega arith
-
-    all : Table true → Second false → Bytes false → Numbers true → too_small i ≡ false → Reached i
-    all a s d b c =
-        let ok = told-good i.ask.nodes i.table (eqb-true _ _ a) in
-        let e = eqb-true _ _ b in
-        record { none = refused-room i ok s d e false c; right = s; passed = passed i ok e; large = large i c }
-
-    go : Table true ⊎ Table false → Second true ⊎ Second false → Bytes true ⊎ Bytes false → Numbers true ⊎ Numbers false → (too_small i ≡ true) ⊎ (too_small i ≡ false) → Reached i
-    go (inl a) (inr s) (inr d) (inl b) (inr c) = all a s d b c
-    go (inl a) (inr s) (inr d) (inl b) (inl c) = absurd (ten a s d b c)
-    go (inl a) (inr s) (inr d) (inr b) c = absurd (number a s d b)
-    go (inl a) (inr s) (inl d) b c = absurd (fifteen a s d)
-    go (inl a) (inl s) d b c = absurd (twenty a s)
-    go (inr a) s d b c = absurd (eqb-false _ _ a (rw a at zero_is))
+    let table = on_from (table_fault i.ask.nodes i.table) _ zero_is in
+    let second = past (wrong_second i.ask.nodes i.table i.second) second_table _ (omega arith) table.1 in
+    let bytes = past (wrong i.table i.closed) closures _ (omega arith) second.1 in
+    let numbers = on_from (plain (refusal (query_of i) i.k)) _ bytes.1 in
+    let small = past (too_small i) buffers _ (omega arith) numbers.1 in
+    let ok = told-good i.ask.nodes i.table table.0 in
+    record {
+      none = rw (ok, second.0, bytes.0, numbers.0, small.0);
+      right = second.0;
+      passed = passed i ok numbers.0;
+      large = large i small.0;
+    }
 
 pub profiling : (i : Input) → Reached i → Profiling i.ask i.table i.second i.k i.area i.work
 profiling i r =

@@ -2,10 +2,11 @@
 #![tactic(auto)]
 
 ghost use Rattle.std.specs.Prelude.{◌≡◌, [], ◌≤◌};
+ghost use Rattle.outcome.specs.Outcome.{told_by};
 ghost use Rattle.net.specs.Limits.{most_nodes, most_routes};
 ghost use Rattle.query_via.specs.Via.{given, input, too_small, refused_of, Cored};
 
-use outcome::Told;
+use outcome::{Outcome, Refusal};
 use query_rounds::Got;
 use search_ask::Ask;
 
@@ -17,26 +18,19 @@ pub struct Wish {
 }
 
 // Whether a buffer is too small.
+#[tactic(auto, using(query::proofs::Tests::tests), unfolding(crate::specs::Via::too_small))]
 fn too_small(ask: Ask, wish: Wish, area: &[u32], work: &[u8]) -> bool
     requires { (1 ≤ ask.nodes) × (ask.nodes ≤ most_nodes) × (wish.k ≤ most_routes) }
     ensures { result ≡ too_small
         (given [] [] ask wish [] area.now work.now) }
 {
-    let nodes = ask.nodes as usize;
-    let w = nodes - 1;
-    let wanted = wish.k as usize;
-    let lent = wish.lent;
-    if area.len() < wanted * w {
-        return true;
-    }
-    if lent < wanted {
-        return true;
-    }
-    work.len() < nodes * working_room::NODE
+    query::few_slots(ask, wish.k, area)
+        || wish.lent < wish.k as usize
+        || work.len() < ask.nodes as usize * working_room::NODE
 }
 
-// The decisions before the profile: 13 and the records, 20, 15, then 7, 8, 9 and 10; 0 where the
-// profile is to be made.
+// The decisions before the profile: 13 and the records, 20, 15, then 7, 8, 9 and 10. Where none of
+// them refuses the profile is to be made.
 fn refused(
     table: &[u8],
     second: &[u8],
@@ -45,46 +39,19 @@ fn refused(
     closed: &[u8],
     area: &[u32],
     work: &[u8],
-) -> Told
-    ensures { result ≡ refused_of (given table.now second.now ask wish
+) -> Result<(), Refusal>
+    ensures { told_by result ≡ refused_of (given table.now second.now ask wish
         closed.now area.now work.now) }
 {
-    let nodes = ask.nodes;
-    let told = table::fault::check(table, nodes);
-    if told.outcome != outcome::FOUND {
-        return told;
+    table::fault::check(table, ask.nodes)?;
+    if second::wrong(table, second, ask.nodes) {
+        return Err(Refusal::plain(Outcome::Second));
     }
-    if second::wrong(table, second, nodes) {
-        return outcome::plain(outcome::SECOND);
-    }
-    if closures::wrong(table, closed) {
-        return outcome::plain(outcome::CLOSURES);
-    }
-    let f = query::refusal(ask, wish.k);
-    if f != 0 {
-        return outcome::plain(f);
-    }
+    query::refusal_closed(table, closed, ask, wish.k)?;
     if too_small(ask, wish, area, work) {
-        return outcome::plain(outcome::BUFFERS);
+        return Err(Refusal::plain(Outcome::Buffers));
     }
-    told
-}
-
-// A refusal, which writes no summary.
-fn refuse(told: Told) -> Got
-    ensures { (result.told ≡ told) × (result.n ≡ 0) }
-{
-    let none = [0u64; summary::MOST_ROUTES];
-    let few = [0u16; summary::MOST_ROUTES];
-    Got {
-        told: told,
-        sums: summary::Sums {
-            length: none,
-            arcs: few,
-            labels: few,
-        },
-        n: 0,
-    }
+    Ok(())
 }
 
 // The query of an ask.
@@ -101,9 +68,8 @@ fn decide(
         closed.now area.old work.old) result
         area.new work.new }
 {
-    let told = refused(table, second, ask, wish, closed, area, work);
-    if told.outcome != outcome::FOUND {
-        return refuse(told);
+    if let Err(refusal) = refused(table, second, ask, wish, closed, area, work) {
+        return Got::from(refusal);
     }
     via_rounds::all(table, second, closed, ask, wish.k as usize, area, work)
 }
@@ -129,6 +95,6 @@ pub fn core(
         area.new work.new }
 {
     let ask = query::ask_of(nodes, s, goal, a, b);
-    let wish = Wish { k: k, lent: lent };
+    let wish = Wish { k, lent };
     decide(table, second, ask, wish, closed, area, work)
 }

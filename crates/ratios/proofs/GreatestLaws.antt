@@ -11,7 +11,7 @@ use lib.Dec.{T, ltb→lt, nltb→le}
 use Rattle.net.specs.Net.{Net}
 use Rattle.net.specs.Route.{length_of}
 use Rattle.ratios.specs.Ratios.{share_with, exceeds, greater_of, greatest_from}
-use Rattle.ratios.specs.declared.Fraction.{Fraction}
+use Rattle.products.specs.declared.Fraction.{Fraction}
 
 -- x is at most y, as fractions.
 abbrev pub Not-above : Fraction → Fraction → Type 0

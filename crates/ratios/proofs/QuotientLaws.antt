@@ -16,7 +16,7 @@ use lib.Ieee.Scale.{round_same}
 use borrow.Author.Tests.{ne_eqb}
 use Rattle.products.specs.Product.{most_factor}
 use Rattle.ratios.specs.Ratios.{quotient, no_share}
-use Rattle.ratios.specs.declared.Fraction.{Fraction}
+use Rattle.products.specs.declared.Fraction.{Fraction}
 
 -- ---- a cast is exact
 

@@ -26,7 +26,7 @@ use Rattle.search_ask.proofs.AskLaws.{nodes-most, lengths-most}
 use Rattle.search_ask.proofs.EarlierLaws.{slot-end}
 use Rattle.ratios.specs.Ratios.{share_with, no_share, greater_of, greatest_from, first_of}
 use Rattle.ratios.specs.Routes.{Routes, route_at}
-use Rattle.ratios.specs.declared.Fraction.{Fraction}
+use Rattle.products.specs.declared.Fraction.{Fraction}
 use Rattle.ratios.proofs.GreatestLaws.{greater-cases, greatest-more}
 use Rattle.ratios.proofs.ShareLaws.{overlap-small}
 
@@ -73,7 +73,7 @@ module _ {ask : Ask} {table area lens counts : List ℕ} {n : ℕ} (r : Routes a
       → o ≡ overlap net (route_at ask area i) (route_at ask area j)
   overlap-is i j q p o h k e = e ∙ ap₂ (λ x y. overlap net x (route_in y)) h k ∙ ap (overlap net (route_at ask area i)) (route-again (slot (width ask) j area))
 
-  pub share-small : (i j : ℕ) → i < n → j < n → Small (share_with net (route_at ask area i) (route_at ask area j))
+  share-small : (i j : ℕ) → i < n → j < n → Small (share_with net (route_at ask area i) (route_at ask area j))
   share-small i j h k = (
     omega (arith, overlap-small net (lengths-most r.accepted) (route_at ask area i) (route_at ask area j) (route-short i h)),
     omega (arith, r.lengths j k, r.positive j k),

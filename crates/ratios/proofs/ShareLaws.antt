@@ -1,7 +1,6 @@
 -- The share of a route with one before it. A route has as many arcs at most as there are nodes, so its length, and with it each overlap, is at most the most nodes
 -- times the greatest length, 65,536 times 1,000,000, which is below 2 ^ 40 (`overlap-small`).
 use mathlib.Core.Path.{◌≡◌, sym, ap, ◌∙◌}
-use mathlib.Core.Bool.{true, false}
 use mathlib.Core.List.{List, [], ◌∷◌}
 use Prim.Native.Nat.{ℕ, ◌+◌, ◌*◌, ◌≤◌, ◌<◌}
 use native.Mathlib.Omega.{arith}
@@ -14,18 +13,6 @@ use Rattle.net.specs.Route.{overlap}
 use Rattle.net.specs.Limits.{most_nodes, most_length}
 use Rattle.net.proofs.Overlap.{overlap-append}
 use Rattle.net.proofs.Lengths.{length_of-most, overlap-most}
-use Rattle.ratios.specs.Ratios.{exceeds, greater_of}
-use Rattle.ratios.specs.declared.Fraction.{Fraction}
-
--- ---- two fractions
-
-pub greater-new : (f x : Fraction) → exceeds x f ≡ true → greater_of f x ≡ x
-greater-new f x h = rw h
-
-pub greater-old : (f x : Fraction) → exceeds x f ≡ false → greater_of f x ≡ f
-greater-old f x h = rw h
-
--- ---- the overlap arc by arc
 
 module _ (net : Net) where
   pub overlap-turn : (q p : List ℕ) (i : ℕ) → i < length q → overlap net (take i q) p + overlap net (get_or q i 0 ∷ []) p ≡ overlap net (take (i + 1) q) p

@@ -4,7 +4,7 @@ use Rattle.std.specs.Float.{fin, binary64}
 use Rattle.std.specs.Float.Ieee.{round}
 use Rattle.net.specs.Net.{Net}
 use Rattle.net.specs.Route.{length_of, overlap}
-use Rattle.ratios.specs.declared.Fraction.{Fraction}
+use Rattle.products.specs.declared.Fraction.{Fraction}
 use Rattle.ratios.specs.declared.Ratios.{Ratios}
 
 -- "Each is the one division of the two whole numbers, rounded once, bit for bit."

@@ -13,6 +13,7 @@ ghost use Rattle.ratios.specs.Ratios.{quotient, ratios_of, ratios_for};
 ghost use Rattle.ratios.specs.Rows.{record_at, set_entry, firsts, written};
 ghost use Rattle.ratios.specs.Routes.{Routes, Answered, answered_in, route_at};
 
+use products::Fraction;
 use search_ask::Ask;
 use summary::Sums;
 
@@ -29,13 +30,6 @@ pub struct Ratios {
 pub struct Rows {
     pub overlap: [f64; summary::MOST_ROUTES],
     pub detour: [f64; summary::MOST_ROUTES],
-}
-
-// A fraction of two whole numbers.
-#[derive(Clone, Copy)]
-pub struct Fraction {
-    pub over: u64,
-    pub under: u64,
 }
 
 // The one division.
@@ -62,14 +56,10 @@ pub fn with(t: Rows, i: usize, x: Ratios) -> Rows
     requires { i < most_routes }
     ensures { result ≡ set_entry t i x }
 {
-    let mut overlap = t.overlap;
-    let mut detour = t.detour;
-    overlap[i] = x.overlap;
-    detour[i] = x.detour;
-    Rows {
-        overlap: overlap,
-        detour: detour,
-    }
+    let mut t = t;
+    t.overlap[i] = x.overlap;
+    t.detour[i] = x.detour;
+    t
 }
 
 // The two figures of route i, from 0, whose length is `lens[i]` and whose number of arcs
@@ -94,14 +84,12 @@ fn answered(counts: &[u16], n: usize) -> usize
     requires { n ≤ length counts.now }
     ensures { result ≡ answered_in counts.now n }
 {
-    let mut i = 0;
-    while i < n {
+    for i in 0..n {
         if counts[i] == 0 {
             return i;
         }
-        i += 1;
     }
-    i
+    n
 }
 
 // The rows of n rounds: 0 and 0 where a round has no answer.
@@ -118,11 +106,8 @@ pub fn all(table: &[u8], ask: Ask, area: &[u32], sums: Sums, n: usize) -> Rows
         overlap: zeros,
         detour: zeros,
     };
-    let mut i = 0;
-    while i < m {
-        let x = of(table, ask, area, &lens, &counts, i);
-        t = with(t, i, x);
-        i += 1;
+    for i in 0..m {
+        t = with(t, i, of(table, ask, area, &lens, &counts, i));
     }
     t
 }
@@ -132,9 +117,7 @@ pub fn write(s: &mut [Ratios], t: Rows, n: usize)
     requires { (n ≤ most_routes) × (n ≤ length s.old) }
     ensures { s.new ≡ written t n s.old }
 {
-    let mut i = 0;
-    while i < n {
+    for i in 0..n {
         s[i] = at(t, i);
-        i += 1;
     }
 }

@@ -1,7 +1,6 @@
 // Shares of one route with those before it.
 ghost use Rattle.std.specs.Prelude.{◌≡◌, [], ◌+◌, ◌*◌, ◌≤◌, ◌<◌, length, take};
 ghost use Rattle.words.specs.Part.{slot};
-ghost use Rattle.products.specs.Product.{most_factor};
 ghost use Rattle.net.specs.Limits.{most_nodes};
 ghost use Rattle.net.specs.Route.{overlap};
 ghost use Rattle.search_ask.specs.Ask.{Accepted, net_for, width};
@@ -9,7 +8,7 @@ ghost use Rattle.search_ask.specs.Earlier.{route_in, earlier_in};
 ghost use Rattle.ratios.specs.Ratios.{greater_of, share_with, greatest_share};
 ghost use Rattle.ratios.specs.Routes.{Arcs, Routes, route_at};
 
-use crate::Fraction;
+use products::Fraction;
 use search_ask::Ask;
 
 // The first words of slot j.
@@ -30,11 +29,8 @@ fn overlap(table: &[u8], ask: Ask, q: &[u32], p: &[u32]) -> u64
         (route_in p.now) }
 {
     let mut total = 0;
-    let mut i = 0;
-    while i < q.len() {
-        let arc = q[i] as usize;
-        total += search_driven::shared(table, ask, p, arc);
-        i += 1;
+    for &arc in q {
+        total += search_driven::shared(table, ask, p, arc as usize);
     }
     total
 }
@@ -63,14 +59,9 @@ fn share(
 
 // The greater of two, the former of equal ones.
 fn greater_of(f: Fraction, x: Fraction) -> Fraction
-    requires { (f.over < most_factor) × (f.under < most_factor)
-        × (x.over < most_factor) × (x.under < most_factor) }
     ensures { result ≡ greater_of f x }
 {
-    if products::less(f.over, x.under, x.over, f.under) {
-        return x;
-    }
-    f
+    if f.is_less(x) { x } else { f }
 }
 
 // The greatest share of route i with one before it.
@@ -87,10 +78,8 @@ pub(crate) fn greatest(
         (route_at ask area.now i) (earlier_in (width ask) i area.now) }
 {
     let mut f = Fraction { over: 0, under: 1 };
-    let mut j = 0;
-    while j < i {
+    for j in 0..i {
         f = greater_of(f, share(table, ask, area, lens, counts, i, j));
-        j += 1;
     }
     f
 }

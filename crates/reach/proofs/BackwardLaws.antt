@@ -21,23 +21,18 @@ use Rattle.second.specs.Second.{wrong_second, number_at, Next}
 use Rattle.second.specs.Lookup.{coming_start}
 use Rattle.second.proofs.ComingLaws.{coming-le, coming-order, coming-past, second_from, second-to, second-len, coming-e, coming-i, coming-rises, next-first, next-after}
 use Rattle.working_room.specs.Field.{long_at}
+use Rattle.run_notes.specs.Noted.{start_by}
 use Rattle.reach.specs.declared.Stand.{Stand}
 use Rattle.reach.specs.Steps.{Looked}
 use Rattle.reach.specs.Choice.{Fitting, NoFitting, Brought}
-use Rattle.reach.specs.Turn.{Turn, Over}
-use Rattle.reach.proofs.LookingLaws.{turn-skip, turn-over, turn-look, turn-again}
+use Rattle.reach.specs.Turn.{Turn}
+use Rattle.reach.specs.Way.{along, turned_arcs, AllFrom, NoneFrom, Along}
+use Rattle.reach.proofs.LookingLaws.{turn-skip, turn-look, turn-again}
 use Rattle.reach.proofs.ForwardLaws.{open-arc, arc-open}
 use Rattle.reach.proofs.ChoiceLaws.{fits-open, fits-e}
 
 abbrev back : ℕ → List ℕ → List ℕ → Net
 back nodes t closed = reversed (net_of nodes t closed)
-
--- Place j of u's run: the records before it are arcs below lo, and record j is the next arc from lo on that comes to u.
-pub record Along (nodes : ℕ) (t second : List ℕ) (u end j lo : ℕ) : Type 0 where
-  pub low : coming_start second u ≤ j
-  pub high : j ≤ end
-  pub behind : (i : ℕ) → coming_start second u ≤ i → i < j → number_at nodes t i < lo
-  pub next : j < end → Next nodes t j lo
 
 -- the run is over where the table is, and at a record of another node; up to there it goes on
 module _ (nodes : ℕ) (t second : List ℕ) (ok : table_fault nodes t ≡ good) (right : wrong_second nodes t second ≡ false) (u j : ℕ) where
@@ -102,27 +97,38 @@ module _ (nodes : ℕ) (t closed : List ℕ) where
       let q = arc-open nodes t closed e p in
       (q.0, q.1, sym (ap (λ y. y.to) (arc-is t e q.0)) ∙ sym (rev-from (net_of nodes t closed) e p.0) ∙ starts)
 
+pub backward-begins : (nodes : ℕ) (t w closed : List ℕ) (u : ℕ) → table_fault nodes t ≡ good → wrong_second nodes t w ≡ false
+    → (lo : ℕ) × Along nodes t w u (coming_start w (u + 1)) (start_by to_at w u) lo × AllFrom (along turned_arcs nodes t closed) u lo
+unfolding coming_start start_by
+backward-begins nodes t w closed u ok right =
+    (0, along-first nodes t w ok right u (coming_start w (u + 1)) refl (start_by to_at w u) refl, λ e o starts. omega arith)
+
+pub backward-ends : (nodes : ℕ) (t w closed : List ℕ) (u i lo : ℕ) → table_fault nodes t ≡ good → wrong_second nodes t w ≡ false → Along nodes t w u (coming_start w (u + 1)) i lo
+    → (records w ≤ i) ⊎ (to_at w i ≡ u → ⊥) → NoneFrom (along turned_arcs nodes t closed) u lo
+unfolding reversed turned_arcs
+backward-ends nodes t w closed u i lo ok right g over e o starts p =
+    let c = comes nodes t closed u e o starts in
+    let y = coming-i nodes t ok w right u e c.0 c.2 in
+    absurd (omega (arith, g.behind y.0 y.1 (omega (arith, y.2, past over)), y.3))
+  where
+    past : (records w ≤ i) ⊎ (to_at w i ≡ u → ⊥) → coming_start w (u + 1) ≤ i
+    past (inl h) = omega (arith, coming-le w (u + 1))
+    past (inr h) = ends-here nodes t w ok right u i g.low h
+
+module _ (nodes : ℕ) (t closed : List ℕ) where
   module _ (second : List ℕ) (ok : table_fault nodes t ≡ good) (right : wrong_second nodes t second ≡ false) (u end : ℕ) (ends : end ≡ coming_start second (u + 1))
       (s : ℕ) (x : Stand) (l m : List ℕ) (root d j lo : ℕ) (g : Along nodes t second u end j lo) (k : Turn (back nodes t closed) s x l m root u d lo) where
-    pub backward-over : end ≤ j → Over (back nodes t closed) s x l m root u
-    backward-over h =
-        turn-over (back nodes t closed) s x l m root u d lo k
-        (λ e o starts p.
-        let c = comes u e o starts in
-        let w = coming-i nodes t ok second right u e c.0 c.2 in
-        absurd (omega (arith, g.behind w.0 w.1 (omega (arith, w.2, ends)), w.3)))
-
     module _ (h : j < end) (a : ℕ) (is : a ≡ number_at nodes t j) where
       -- no arc that comes to u lies between
       between : (e : ℕ) → Open (back nodes t closed) e → (arc (back nodes t closed).arcs e).from ≡ u → lo ≤ e → e < a → ⊥
       between e o starts p q =
-          (g.next h).none e p (omega (arith, is)) ((comes u e o starts).2 ∙ sym (coming-e nodes t ok second right u j g.low (omega (arith, ends))).1)
+          (g.next h).none e p (omega (arith, is)) ((comes nodes t closed u e o starts).2 ∙ sym (coming-e nodes t ok second right u j g.low (omega (arith, ends))).1)
 
       passed : is_open_at closed a ≡ false → Turn (back nodes t closed) s x l m root u d (a + 1)
       passed z =
           turn-skip (back nodes t closed) s x l m root u d lo k (a + 1)
           (λ e o starts p q. ⊎_elim
-          (λ w. let y : e ≡ a = omega arith in subst T (sym (comes u e o starts).1 ∙ ap (is_open_at closed) y ∙ z) tt)
+          (λ w. let y : e ≡ a = omega arith in subst T (sym (comes nodes t closed u e o starts).1 ∙ ap (is_open_at closed) y ∙ z) tt)
           (λ w. between e o starts p w) (order a e))
 
       looked : is_open_at closed a ≡ true → (w c : ℕ) → w ≡ from_at second j → c ≡ d + len_at second j → (m' : List ℕ) (r : ℕ) → Looked x nodes m root w a c m' r → Turn (back nodes t closed) s x l m' r u d (a + 1)

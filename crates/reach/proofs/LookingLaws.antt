@@ -303,9 +303,6 @@ module _ (net : Net) (s : ℕ) (x : Stand) (l m : List ℕ) (root u d a : ℕ) (
   pub turn-anew : Turn net s x m m root u d a
   turn-anew = turning-anew net s x l m root u d (Waiting net u a) t
 
-  pub turn-far : d ≤ 4611686018427387904
-  turn-far = turning-far net s x l m root u d (Waiting net u a) t
-
   -- on to a later arc, if none that may be used leaves u in between
   pub turn-skip : (b : ℕ) → ((e : ℕ) → Open net e → (arc net.arcs e).from ≡ u → a ≤ e → e < b → ⊥) → Turn net s x l m root u d b
   turn-skip b none =
@@ -337,6 +334,16 @@ over-since net s x l m m' root u e o =
       ready = o.ready;
       since = record { elsewhere = else-trans x e.elsewhere o.since.elsewhere; stays = λ v y. o.since.stays v (e.stays v y) };
       is-done = o.is-done;
+    }
+
+-- a turn that goes on, seen from an earlier room
+pub turn-since : (net : Net) (s : ℕ) (x : Stand) (l m m' : List ℕ) (root u d a : ℕ) → Since net x l m → Turn net s x m m' root u d a → Turn net s x l m' root u d a
+turn-since net s x l m m' root u d a e t =
+    record {
+      looking = t.looking;
+      since = record { elsewhere = else-trans x e.elsewhere t.since.elsewhere; stays = λ v y. t.since.stays v (e.stays v y) };
+      is-done = t.is-done;
+      is-level = t.is-level;
     }
 
 -- ---- how many nodes are not done: at each turn one less

@@ -1,5 +1,5 @@
 -- An arc told by its two nodes and its length.
-use Rattle.std.specs.Prelude.{◌≡◌, ◌⊎◌, List, Bool, true, false, ◌&&◌, ℕ, ◌≤◌, ◌<◌, eqb}
+use Rattle.std.specs.Prelude.{◌≡◌, ◌⊎◌, List, Option, Some, None, Bool, true, false, ◌&&◌, ℕ, ◌≤◌, ◌<◌, eqb}
 use Rattle.table.specs.Table.{records, from_at, to_at, len_at, is_open_at}
 use Rattle.working_room.specs.Field.{long_at}
 use Rattle.reach.specs.declared.Stand.{Stand}
@@ -16,9 +16,10 @@ Fitting t closed w v len a = (a < records t) × (from_at t a ≡ w) × (fits t c
 abbrev pub NoFitting : List ℕ → List ℕ → ℕ → ℕ → ℕ → Type 0
 NoFitting t closed w v len = (a : ℕ) → a < records t → from_at t a ≡ w → fits t closed v len a ≡ false
 
--- Number r is such an arc, or the number of arcs where there is none.
-abbrev pub Chosen : List ℕ → List ℕ → ℕ → ℕ → ℕ → ℕ → Type 0
-Chosen t closed w v len r = Fitting t closed w v len r ⊎ ((r ≡ records t) × NoFitting t closed w v len)
+-- What is found is such an arc, or nothing where there is none.
+abbrev pub Chosen : List ℕ → List ℕ → ℕ → ℕ → ℕ → Option ℕ → Type 0
+Chosen t closed w v len None = NoFitting t closed w v len
+Chosen t closed w v len (Some a) = Fitting t closed w v len a
 
 -- An arc from w to v of this length brings w to c: nothing has changed where w is no further or no such arc is open, and else one of them is looked at.
 abbrev pub Brought : List ℕ → List ℕ → Stand → ℕ → List ℕ → ℕ → ℕ → ℕ → ℕ → ℕ → List ℕ → ℕ → Type 0

@@ -3,3 +3,4 @@ pub mod Looking
 pub mod Steps
 pub mod Choice
 pub mod Turn
+pub mod Way

@@ -3,16 +3,16 @@ ghost use Rattle.std.specs.Prelude.{◌≡◌, false, ◌<◌};
 ghost use Rattle.table.specs.Table.{net_of};
 ghost use Rattle.table.specs.Fault.{table_fault, good};
 ghost use Rattle.second.specs.Second.{wrong_second};
-ghost use Rattle.second.specs.Lookup.{coming_start};
 ghost use Rattle.distances.specs.Search.{Found};
 ghost use Rattle.distances.specs.Turned.{reversed};
-ghost use Rattle.node_queue.specs.Queue.{key_at, Roomy, Queue};
+ghost use Rattle.node_queue.specs.Queue.{Roomy, Queue};
 ghost use Rattle.run_notes.specs.Noted.{LeavingNoted, ComingNoted};
 ghost use Rattle.reach.specs.Stand.{Stands, BeforeNotes, dist_in, last_in, Elsewhere};
 ghost use Rattle.reach.specs.Choice.{Brought};
-ghost use Rattle.reach.specs.Turn.{Ready, Over};
 
+use crate::way::{self, Arcs};
 use crate::{Stand, choice, step};
+use run_notes::ByEnd;
 
 // An arc of this length from w to v brings node w to distance c. Its number is looked for only
 // where w is further. The node that comes first then.
@@ -38,61 +38,42 @@ fn bring(
         return root;
     }
     let first = run_notes::start_of(table, nodes, room, w);
-    let a = choice::open_arc(table, closed, nodes, w, first, v, len);
-    if table.len() / table::arc::RECORD <= a {
+    let Some(a) = choice::open_arc(table, closed, nodes, w, first, v, len) else {
         return root;
-    }
+    };
     step::look(room, nodes as usize, x, root, w as usize, a, c)
 }
 
-// The turn of node u, which comes first: it is done, and the open arcs that come to it, from record
-// `first` on, are looked at. The node that comes first then.
-fn leave(
-    table: &[u8],
-    second: &[u8],
-    closed: &[u8],
-    nodes: u32,
-    goal: u32,
-    x: Stand,
-    room: &mut [u8],
-    u: usize,
-    first: usize,
-) -> usize
-    requires { (table_fault nodes table.now ≡ good)
-        × (wrong_second nodes table.now second.now ≡ false)
-        × (Ready (reversed (net_of nodes table.now closed.now)) goal x room.old u)
-        × (key_at room.old u < x.far) × (first ≡ coming_start second.now u) × (BeforeNotes x)
-        × (LeavingNoted nodes table.now room.old) }
-    ensures { Over (reversed (net_of nodes table.now closed.now)) goal x
-        room.old room.new result u }
-{
-    let n = nodes as usize;
-    let v = u as u32;
-    let d = working_room::long(room, x.dist, u);
-    let mut root = node_queue::set_key(room, n, u, x.far);
-    let end = second.len() / table::arc::RECORD;
-    let mut j = first;
-    while j < end {
-        if table::arc::to_of(second, j) != v {
-            return root;
-        }
-        let w = table::arc::from_of(second, j);
-        let len = table::arc::length_of(second, j);
-        root = bring(
-            table,
-            closed,
-            nodes,
-            x,
-            room,
-            root,
-            w,
-            v,
-            len,
-            d + len as u64,
-        );
-        j += 1;
+impl Arcs for ByEnd {
+    ghost use Rattle.std.specs.Prelude.{◌≡◌, false, ◌+◌};
+    ghost use Rattle.second.specs.Second.{wrong_second};
+    ghost use Rattle.second.specs.Lookup.{coming_start};
+    ghost use Rattle.reach.specs.Way.{turned_arcs, Along};
+
+    ghost turn = { turned_arcs };
+
+    ghost Right = { λ nodes t w. wrong_second nodes t w ≡ false };
+
+    ghost Place = { λ nodes t w u i lo. Along nodes t w u (coming_start w (u + 1)) i lo };
+
+    fn look(
+        table: &[u8],
+        walked: &[u8],
+        closed: &[u8],
+        nodes: u32,
+        s: u32,
+        x: Stand,
+        room: &mut [u8],
+        root: usize,
+        v: u32,
+        i: usize,
+        d: u64,
+    ) -> usize {
+        let w = table::arc::from_of(walked, i);
+        let len = table::arc::length_of(walked, i);
+        let c = d + len as u64;
+        bring(table, closed, nodes, x, room, root, w, v, len, c)
     }
-    root
 }
 
 // The distances of all nodes to the goal, over the arcs that are not closed; `second` has the arcs
@@ -115,13 +96,5 @@ pub fn search(
         × (Found (reversed (net_of nodes table.now closed.now)) goal x.far
         (dist_in x nodes room.new) (last_in x room.new)) }
 {
-    let n = nodes as usize;
-    let far = x.far;
-    let mut root = step::start(room, n, x, goal as usize);
-    let mut key = working_room::long(room, node_queue::winner::KEY, root);
-    while key < far {
-        let first = working_room::word(room, run_notes::COMING, root) as usize;
-        root = leave(table, second, closed, nodes, goal, x, room, root, first);
-        key = working_room::long(room, node_queue::winner::KEY, root);
-    }
+    way::search::<ByEnd>(table, second, closed, nodes, goal, x, room);
 }

@@ -8,21 +8,17 @@ ghost use Rattle.reach.specs.Choice.{fits, Chosen};
 use crate::step;
 
 // Whether arc a comes to v, has this length and is open.
+#[tactic(auto, unfolding(crate::specs::Choice::fits))]
 fn fits(table: &[u8], closed: &[u8], a: usize, v: u32, len: u32) -> bool
     requires { a < records table.now }
     ensures { result ≡ fits table.now closed.now v len a }
 {
-    if table::arc::to_of(table, a) != v {
-        return false;
-    }
-    if table::arc::length_of(table, a) != len {
-        return false;
-    }
-    step::is_open(closed, a)
+    table::arc::to_of(table, a) == v
+        && table::arc::length_of(table, a) == len
+        && step::is_open(closed, a)
 }
 
-// An open arc of this length from w to v, or the number of arcs where there is none. The arcs of w
-// start at `first`.
+// An open arc of this length from w to v, if there is one. The arcs of w start at `first`.
 pub fn open_arc(
     table: &[u8],
     closed: &[u8],
@@ -31,20 +27,17 @@ pub fn open_arc(
     first: usize,
     v: u32,
     len: u32,
-) -> usize
+) -> Option<usize>
     requires { (table_fault nodes table.now ≡ good) × (first ≡ run_start table.now w) }
     ensures { Chosen table.now closed.now w v len result }
 {
-    let end = table.len() / table::arc::RECORD;
-    let mut a = first;
-    while a < end {
+    for a in first..table.len() / table::arc::RECORD {
         if table::arc::from_of(table, a) != w {
-            return end;
+            return None;
         }
         if fits(table, closed, a, v, len) {
-            return a;
+            return Some(a);
         }
-        a += 1;
     }
-    end
+    None
 }

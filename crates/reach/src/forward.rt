@@ -2,49 +2,42 @@
 ghost use Rattle.std.specs.Prelude.{◌≡◌, ◌<◌};
 ghost use Rattle.table.specs.Table.{net_of};
 ghost use Rattle.table.specs.Fault.{table_fault, good};
-ghost use Rattle.table.specs.Run.{run_start};
 ghost use Rattle.distances.specs.Search.{Found};
-ghost use Rattle.node_queue.specs.Queue.{key_at, Roomy};
+ghost use Rattle.node_queue.specs.Queue.{Roomy};
 ghost use Rattle.run_notes.specs.Noted.{LeavingNoted};
 ghost use Rattle.reach.specs.Stand.{Stands, BeforeNotes, dist_in, last_in, Elsewhere};
-ghost use Rattle.reach.specs.Turn.{Ready, Over};
 
+use crate::way::{self, Arcs};
 use crate::{Stand, step};
+use run_notes::ByStart;
 
-// The turn of node u, which comes first: it is done, and the open arcs that leave it, from `first`
-// on, are looked at. The node that comes first then.
-fn leave(
-    table: &[u8],
-    closed: &[u8],
-    nodes: u32,
-    s: u32,
-    x: Stand,
-    room: &mut [u8],
-    u: usize,
-    first: usize,
-) -> usize
-    requires { (table_fault nodes table.now ≡ good)
-        × (Ready (net_of nodes table.now closed.now) s x room.old u)
-        × (key_at room.old u < x.far) × (first ≡ run_start table.now u) }
-    ensures { Over (net_of nodes table.now closed.now) s x
-        room.old room.new result u }
-{
-    let n = nodes as usize;
-    let v = u as u32;
-    let d = working_room::long(room, x.dist, u);
-    let mut root = node_queue::set_key(room, n, u, x.far);
-    let end = table.len() / table::arc::RECORD;
-    let mut a = first;
-    while a < end {
-        if table::arc::from_of(table, a) != v {
-            return root;
-        }
-        let w = table::arc::to_of(table, a) as usize;
-        let len = table::arc::length_of(table, a) as u64;
-        root = step::pass(closed, room, n, x, root, w, a, d + len);
-        a += 1;
+impl Arcs for ByStart {
+    ghost use Rattle.std.specs.Prelude.{◌≡◌, ◌≤◌};
+    ghost use Rattle.table.specs.Run.{run_start};
+
+    ghost turn = { λ arcs. arcs };
+
+    ghost Right = { λ nodes t w. w ≡ t };
+
+    ghost Place = { λ nodes t w u i lo. (lo ≡ i) × (run_start t u ≤ i) };
+
+    fn look(
+        table: &[u8],
+        walked: &[u8],
+        closed: &[u8],
+        nodes: u32,
+        s: u32,
+        x: Stand,
+        room: &mut [u8],
+        root: usize,
+        v: u32,
+        i: usize,
+        d: u64,
+    ) -> usize {
+        let w = table::arc::to_of(walked, i) as usize;
+        let len = table::arc::length_of(walked, i) as u64;
+        step::pass(closed, room, nodes as usize, x, root, w, i, d + len)
     }
-    root
 }
 
 // The distances of all nodes from s, over the arcs that are not closed. Where the runs start is
@@ -57,13 +50,5 @@ pub fn search(table: &[u8], closed: &[u8], nodes: u32, s: u32, x: Stand, room: &
         × (Found (net_of nodes table.now closed.now) s x.far
         (dist_in x nodes room.new) (last_in x room.new)) }
 {
-    let n = nodes as usize;
-    let far = x.far;
-    let mut root = step::start(room, n, x, s as usize);
-    let mut key = working_room::long(room, node_queue::winner::KEY, root);
-    while key < far {
-        let first = run_notes::start_of(table, nodes, room, root as u32);
-        root = leave(table, closed, nodes, s, x, room, root, first);
-        key = working_room::long(room, node_queue::winner::KEY, root);
-    }
+    way::search::<ByStart>(table, table, closed, nodes, s, x, room);
 }

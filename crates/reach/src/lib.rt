@@ -5,6 +5,7 @@ pub mod backward;
 mod choice;
 pub mod forward;
 pub mod step;
+mod way;
 
 // Where a search keeps a node's distance and last arc in its record, and what stands for no
 // distance.

@@ -13,12 +13,8 @@ fn clear(room: &mut [u8], n: usize, x: Stand)
     requires { (Stands x) × (Roomy n room.old) }
     ensures { Cleared x.dist x.far n room.old room.new }
 {
-    let dist = x.dist;
-    let far = x.far;
-    let mut v = 0;
-    while v < n {
-        working_room::put_long(room, dist, v, far);
-        v += 1;
+    for v in 0..n {
+        working_room::put_long(room, x.dist, v, x.far);
     }
 }
 
@@ -27,11 +23,9 @@ pub fn start(room: &mut [u8], n: usize, x: Stand, s: usize) -> usize
     requires { (Stands x) × (Roomy n room.old) × (s < n) }
     ensures { Begun x n s room.old room.new result }
 {
-    let far = x.far;
-    let dist = x.dist;
     clear(room, n, x);
-    node_queue::fill(room, n, far);
-    working_room::put_long(room, dist, s, 0);
+    node_queue::fill(room, n, x.far);
+    working_room::put_long(room, x.dist, s, 0);
     node_queue::set_key(room, n, s, 0)
 }
 
@@ -41,10 +35,8 @@ fn lower(room: &mut [u8], n: usize, x: Stand, w: usize, a: usize, d: u64) -> usi
         × (Tree (NotAfter room.old) (winner_at room.old) n) × (w < n) × (a < 4294967296) }
     ensures { Lowered x n room.old w a d room.new result }
 {
-    let dist = x.dist;
-    let last = x.last;
-    working_room::put_long(room, dist, w, d);
-    working_room::put_word(room, last, w, a as u32);
+    working_room::put_long(room, x.dist, w, d);
+    working_room::put_word(room, x.last, w, a as u32);
     node_queue::set_key(room, n, w, d)
 }
 
@@ -59,13 +51,11 @@ pub fn look(room: &mut [u8], n: usize, x: Stand, root: usize, w: usize, a: usize
     root
 }
 
+// Whether arc a is not closed.
 pub fn is_open(closed: &[u8], a: usize) -> bool
     ensures { result ≡ is_open_at closed.now a }
 {
-    if closed.len() <= a {
-        return true;
-    }
-    closed[a] == 0
+    !closures::is_closed(closed, a)
 }
 
 // Arc a, if it is open, brings node w to distance d.

@@ -19,10 +19,8 @@ fn clear(room: &mut [u8], n: usize)
     requires { Roomy n room.old }
     ensures { Cleared n room.old room.new }
 {
-    let mut v = 0;
-    while v < n {
+    for v in 0..n {
         working_room::put_long(room, DISTANCE, v, FAR);
-        v += 1;
     }
 }
 
@@ -65,10 +63,8 @@ fn pass(table: &[u8], closed: &[u8], nodes: u32, goal: u32, room: &mut [u8]) -> 
 {
     let end = table.len() / table::arc::RECORD;
     let mut nearer = 0;
-    let mut a = 0;
-    while a < end {
+    for a in 0..end {
         nearer += look(table, closed, nodes, room, a);
-        a += 1;
     }
     nearer
 }

@@ -8,11 +8,12 @@ use Prim.Native.Nat.{ℕ, ◌+◌}
 use native.Mathlib.Omega.{arith}
 use lib.Dec.{ltb, leb, eqb}
 use lib.ListN.{length}
-use borrow.Author.Tests.{ne_eqb, lt-ltb, le-ltb, eqb-false}
+use borrow.Author.Tests.{lt-ltb, le-ltb, eqb-false}
 use Rattle.lists.proofs.Cases.{cases, order}
 use Rattle.numerals.specs.Decimal.{most_number, is_digit}
+use Rattle.road_line.specs.declared.Kind.TheVariants as kinds
 use Rattle.road_line.specs.declared.Scan.{Scan}
-use Rattle.road_line.specs.Scan.{started, spoilt, state_of, expected_at, kind_of, left_of, begun_by, compared, grown_by, with_digit, with_space, number_byte, scan_byte, scan_from, scanned}
+use Rattle.road_line.specs.Scan.{unknown, numbered, started, spoilt, state_of, expected_at, kind_of, left_of, begun_by, compared, grown_by, with_digit, with_space, number_byte, scan_byte, scan_from, scanned}
 use Rattle.road_file.specs.File.{Fed, next_line, missing, malformed, roads, ended_of}
 use Rattle.road_file.specs.Reader.{reader_of, short_by, wrong_by}
 
@@ -21,41 +22,43 @@ either : {A : Type 0} (P : A → Type 0) (b : Bool) (y z : A) → P y → P z �
 either P true y z p q = p
 either P false y z p q = q
 
-abbrev Kind : Scan → Type 0
-Kind x = x.kind ≢ 0
+abbrev Known : Scan → Type 0
+Known x = unknown x.kind ≡ false
 
-kind-first : (b : ℕ) → kind_of b ≢ 0
-unfolding kind_of
-kind-first b =
-    either (λ k. k ≢ 0) (eqb (expected_at 3 0) b) 3 _ (λ e. omega arith)
-    (either (λ k. k ≢ 0) (eqb (expected_at 1 0) b) 1 _ (λ e. omega arith) (either (λ k. k ≢ 0) (eqb (expected_at 2 0) b) 2 4 (λ e. omega arith) (λ e. omega arith)))
+known-first : (b : ℕ) → unknown (kind_of b) ≡ false
+unfolding kind_of unknown
+known-first b =
+    either (λ k. unknown k ≡ false) (eqb (expected_at kinds.Comment 0) b) kinds.Comment _ refl
+    (either (λ k. unknown k ≡ false) (eqb (expected_at kinds.Sizes 0) b) kinds.Sizes _ refl
+    (either (λ k. unknown k ≡ false) (eqb (expected_at kinds.Arc 0) b) kinds.Arc kinds.Other refl refl))
 
-kind-spoilt : Kind spoilt
-kind-spoilt e = omega arith
+known-spoilt : Known spoilt
+unfolding unknown
+known-spoilt = refl
 
-kind-next : (x : Scan) (b : ℕ) → Kind x → Kind (scan_byte x b)
+known-next : (x : Scan) (b : ℕ) → Known x → Known (scan_byte x b)
 unfolding scan_byte begun_by compared number_byte with_space with_digit
-kind-next x b k =
-    either Kind (eqb x.kind 0) (state_of (kind_of b) 1 (left_of (kind_of b))) _ (kind-first b)
-    (either Kind (ltb (expected_at x.kind x.at) 256) _ _ (either Kind (eqb (expected_at x.kind x.at) b) (state_of x.kind (x.at + 1) x.left) spoilt k kind-spoilt)
-    (either Kind (ltb 2 x.kind) x _ k
-    (either Kind (eqb b 32) _ _ (either Kind (x.begun && ltb 0 x.left) _ spoilt k kind-spoilt)
-    (either Kind (is_digit b) _ spoilt (either Kind (leb (grown_by x.begun x.value b) most_number) _ spoilt k kind-spoilt) kind-spoilt))))
+known-next x b k =
+    either Known (unknown x.kind) (state_of (kind_of b) 1 (left_of (kind_of b))) _ (known-first b)
+    (either Known (ltb (expected_at x.kind x.at) 256) _ _ (either Known (eqb (expected_at x.kind x.at) b) (state_of x.kind (x.at + 1) x.left) spoilt k known-spoilt)
+    (either Known (numbered x.kind) _ x
+    (either Known (eqb b 32) _ _ (either Known (x.begun && ltb 0 x.left) _ spoilt k known-spoilt)
+    (either Known (is_digit b) _ spoilt (either Known (leb (grown_by x.begun x.value b) most_number) _ spoilt k known-spoilt) known-spoilt)) k))
 
-kind-begin : (b : ℕ) → Kind (scan_byte started b)
-unfolding scan_byte begun_by
-kind-begin b = kind-first b
+known-begin : (b : ℕ) → Known (scan_byte started b)
+unfolding scan_byte unknown begun_by
+known-begin b = known-first b
 
-kind-from : (x : Scan) (l : List ℕ) → Kind x → Kind (scan_from x l)
+known-from : (x : Scan) (l : List ℕ) → Known x → Known (scan_from x l)
 unfolding scan_from
-kind-from x [] k = k
-kind-from x (b ∷ l) k = kind-from (scan_byte x b) l (kind-next x b k)
+known-from x [] k = k
+known-from x (b ∷ l) k = known-from (scan_byte x b) l (known-next x b k)
 
 -- a line has begun exactly if its scan is of some kind
-begun-is : (l : List ℕ) → ltb 0 (length l) ≡ not (eqb (scanned l).kind 0)
-unfolding scan_from
+begun-is : (l : List ℕ) → ltb 0 (length l) ≡ not (unknown (scanned l).kind)
+unfolding scan_from unknown
 begun-is [] = refl
-begun-is (b ∷ l) = lt-ltb 0 (length (b ∷ l)) (omega arith) ∙ sym (ap not (ne_eqb _ 0 (kind-from (scan_byte started b) l (kind-begin b))))
+begun-is (b ∷ l) = lt-ltb 0 (length (b ∷ l)) (omega arith) ∙ sym (ap not (known-from (scan_byte started b) l (known-begin b)))
 
 short-is : (x : Fed) → missing x ≡ short_by (reader_of x)
 unfolding missing short_by

@@ -2,7 +2,7 @@
 use Rattle.std.specs.Prelude.{Bool, true, not, ◌&&◌, ◌||◌, cond, List, [], ◌∷◌, ℕ, ◌+◌, ◌-◌, ltb, eqb, length}
 use Rattle.net.specs.Net.{Arc}
 use Rattle.road_line.specs.Line.{Line, comment, sizes, arc, other}
-use Rattle.road_line.specs.Scan.{started, scanned, scan_byte, read_of}
+use Rattle.road_line.specs.Scan.{unknown, started, scanned, scan_byte, read_of}
 use Rattle.road_file.specs.declared.Reader.{Reader}
 use Rattle.road_file.specs.File.{Fed, next_line}
 
@@ -121,7 +121,8 @@ fed_by r b = cond (eqb b 10) (said_by r (read_of r.scan)) (scanned_by r b)
 
 -- Whether the file may not end here, and the number of its first line that is not permitted or missing; 0 for none.
 unfoldable pub short_by : Reader → Bool
-short_by r = not (eqb r.scan.kind 0) || not r.begun || ltb r.count r.wanted
+unfolding unknown
+short_by r = not (unknown r.scan.kind) || not r.begun || ltb r.count r.wanted
 
 unfoldable pub wrong_by : Reader → ℕ
 unfolding short_by next_line

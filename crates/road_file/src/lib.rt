@@ -9,7 +9,7 @@ ghost use Rattle.road_file.specs.Reader.{reader_of, passed_by, refused_by, sized
 ghost use Rattle.road_file.specs.Reader.{extended_by, said_by, fed_by};
 ghost use Rattle.road_file.specs.Reader.{short_by, wrong_by};
 
-use road_line::{Read, Scan};
+use road_line::{Kind, Read, Scan};
 
 const NEWLINE: u8 = 10;
 
@@ -62,14 +62,7 @@ fn pass(r: Reader) -> Reader
     Reader {
         scan: road_line::start(),
         lines: next_line(r.lines),
-        begun: r.begun,
-        nodes: r.nodes,
-        wanted: r.wanted,
-        count: r.count,
-        from: r.from,
-        to: r.to,
-        len: r.len,
-        wrong: r.wrong,
+        ..r
     }
 }
 
@@ -81,14 +74,8 @@ fn refuse(r: Reader) -> Reader
     Reader {
         scan: road_line::start(),
         lines: line,
-        begun: r.begun,
-        nodes: r.nodes,
-        wanted: r.wanted,
-        count: r.count,
-        from: r.from,
-        to: r.to,
-        len: r.len,
         wrong: if r.wrong == 0 { line } else { r.wrong },
+        ..r
     }
 }
 
@@ -103,13 +90,9 @@ fn size(r: Reader, nodes: u32, arcs: u32) -> Reader
         scan: road_line::start(),
         lines: next_line(r.lines),
         begun: true,
-        nodes: nodes,
+        nodes,
         wanted: arcs,
-        count: r.count,
-        from: r.from,
-        to: r.to,
-        len: r.len,
-        wrong: r.wrong,
+        ..r
     }
 }
 
@@ -127,14 +110,11 @@ fn extend(r: Reader, tail: u32, head: u32, length: u32) -> Reader
     Reader {
         scan: road_line::start(),
         lines: next_line(r.lines),
-        begun: r.begun,
-        nodes: r.nodes,
-        wanted: r.wanted,
         count: r.count + 1,
         from: tail - 1,
         to: head - 1,
         len: length,
-        wrong: r.wrong,
+        ..r
     }
 }
 
@@ -159,33 +139,18 @@ pub fn feed(r: Reader, byte: u8) -> Reader
     if byte == NEWLINE {
         return end_line(r);
     }
-    let scan = r.scan;
     Reader {
-        scan: road_line::scan_byte(scan, byte),
-        lines: r.lines,
-        begun: r.begun,
-        nodes: r.nodes,
-        wanted: r.wanted,
-        count: r.count,
-        from: r.from,
-        to: r.to,
-        len: r.len,
-        wrong: r.wrong,
+        scan: road_line::scan_byte(r.scan, byte),
+        ..r
     }
 }
 
 // Whether the file may not end here.
+#[tactic(auto, unfolding(crate::specs::Reader::short_by))]
 fn short(r: Reader) -> bool
     ensures { result ≡ short_by r }
 {
-    let scan = r.scan;
-    if scan.kind != 0 {
-        return true;
-    }
-    if !r.begun {
-        return true;
-    }
-    r.count < r.wanted
+    r.scan.kind != Kind::Unknown || !r.begun || r.count < r.wanted
 }
 
 // The first line that is not permitted or missing where the file ends here, or 0.

@@ -11,9 +11,7 @@ pub fn clear(table: &mut [u8], n: usize)
     requires { n * 16 ≤ length table.old }
     ensures { table.new ≡ cleared n table.old }
 {
-    let mut i = 0;
-    while i < n {
+    for i in 0..n {
         words::number::write32(table, i * RECORD + PLACE, 0);
-        i += 1;
     }
 }

@@ -39,11 +39,9 @@ pub fn fill(text: &[u8], table: &mut [u8])
         ≡ filled (feed unfed text.now).said.arcs table.old }
 {
     let mut r = road_file::begin();
-    let mut i = 0;
-    while i < text.len() {
+    for &byte in text {
         let before = r.count;
-        r = road_file::feed(r, text[i]);
+        r = road_file::feed(r, byte);
         place_next(table, before, r);
-        i += 1;
     }
 }

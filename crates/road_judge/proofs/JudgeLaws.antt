@@ -1,22 +1,24 @@
 -- A pass that judges the last arc whenever the number of arcs has grown has the pick of all arcs so far: at most one comes with a byte, behind the others, and the
 -- node count by which it is judged no longer changes.
-use mathlib.Core.Path.{◌≡◌, sym, ap, ap₂, ◌∙◌}
+use mathlib.Core.Path.{◌≡◌, refl, sym, ap, ap₂, ◌∙◌}
 use mathlib.Core.Bool.{Bool, true, false, cond}
 use mathlib.Core.List.{List, [], ◌∷◌, ◌++◌}
 use mathlib.Core.Logic.{◌⊎◌, inl, inr, ⊎_elim, ◌≢◌}
-use Prim.Native.Nat.{ℕ, ◌+◌, ◌≤◌, ◌<◌}
+use Prim.Native.Nat.{ℕ, ◌+◌, ◌≤◌}
 use Rattle.lists.specs.Tests.{lex}
 use native.Mathlib.Omega.{arith}
 use lib.Dec.{ltb, eqb}
 use lib.ListN.{length, length-append}
-use borrow.Author.Tests.{eq-eqb, ne_eqb, lt-ltb, le-ltb}
+use borrow.Author.Tests.{eq-eqb, ne_eqb, le-ltb}
+use Rattle.lists.proofs.Cases.{cases}
+use mir.Val.{bool_byte}
 use Rattle.net.specs.Net.{Arc}
 use Rattle.road_file.specs.File.{Said, Fed, feed_byte}
 use Rattle.road_file.specs.Reader.{last_arc, reader_of}
 use Rattle.road_file.proofs.GrowLaws.{Kept, One, Begun, feed-grows}
 use Rattle.road_order.specs.Lowest.{Pick, no_pick, better, picked, rank_from, rank}
-use Rattle.road_judge.specs.declared.Judged.{Judged}
-use Rattle.road_judge.specs.Judged.{fault_by, pick_of, pick_in, pick_next, stands_by, stands_next}
+use Rattle.road_judge.specs.declared.faulty.Place.{Place}
+use Rattle.road_judge.specs.Judged.{fault_by, pick_at, pick_in, pick_next, stands_by, stands_next}
 
 -- one arc more, behind the others
 pub picked_more : (F : Arc → ℕ) (i : ℕ) (p : Pick) (xs : List Arc) (a : Arc) → picked F i p (xs ++ (a ∷ [])) ≡ better F (i + length xs) (picked F i p xs) a
@@ -30,15 +32,15 @@ unfolding picked
 picked-empty m n xs z = ap (picked (fault_by m) 0 no_pick) z ∙ sym (ap (picked (fault_by n) 0 no_pick) z)
 
 -- a byte more
-pub pick_next_lem : (x : Fed) (b : ℕ) (j : Judged) → Begun x.said → pick_of j ≡ pick_in x → pick_next j (length x.said.arcs) (reader_of (feed_byte x b)) ≡ pick_in (feed_byte x b)
+pub pick_next_lem : (x : Fed) (b : ℕ) (p : Pick) → Begun x.said → p ≡ pick_in x → pick_next p (length x.said.arcs) (reader_of (feed_byte x b)) ≡ pick_in (feed_byte x b)
 unfolding pick_next
-pick_next_lem x b j begun e = go (feed-grows x b)
+pick_next_lem x b p begun e = go (feed-grows x b)
   where
     y : Said
     y = (feed_byte x b).said
 
     go : Kept x.said y ⊎ One x.said y
-        → cond (eqb (length y.arcs) (length x.said.arcs)) (pick_of j) (better (fault_by y.nodes) (length x.said.arcs) (pick_of j) (last_arc y.arcs))
+        → cond (eqb (length y.arcs) (length x.said.arcs)) p (better (fault_by y.nodes) (length x.said.arcs) p (last_arc y.arcs))
         ≡ picked (fault_by y.nodes) 0 no_pick y.arcs
     go (inl k) =
         rw (eq-eqb (length y.arcs) (length x.said.arcs) (ap length k.arcs))
@@ -54,23 +56,18 @@ pick_next_lem x b j begun e = go (feed-grows x b)
 
 -- ---- the rank
 
-module _ (x y i k : ℕ) where
-  pub stands-lower : x < y → cond {A = ℕ} (lex x y (ltb i k)) 1 0 ≡ 1
-  unfolding lex
-  stands-lower h = rw (lt-ltb x y h)
+pub one-if : (b : Bool) → bool_byte b ≡ cond b 1 0
+one-if true = refl
+one-if false = refl
 
-  pub stands-higher : y ≤ x → x ≢ y → cond {A = ℕ} (lex x y (ltb i k)) 1 0 ≡ 0
-  unfolding lex
-  stands-higher h ne = rw (le-ltb x y h, ne_eqb x y ne)
+-- by the start nodes where they differ, else by the places
+pub stands-other : (x y i k : ℕ) → x ≢ y → cond {A = ℕ} (lex x y (ltb i k)) 1 0 ≡ cond (ltb x y) 1 0
+unfolding lex
+stands-other x y i k ne = ⊎_elim (λ e. rw e) (λ e. rw e (rw (ne_eqb x y ne) refl)) (cases (ltb x y))
 
-  module _ (e : x ≡ y) where
-    pub stands-before : i < k → cond {A = ℕ} (lex x y (ltb i k)) 1 0 ≡ 1
-    unfolding lex
-    stands-before h = rw (le-ltb x y (omega arith), eq-eqb x y e, lt-ltb i k h)
-
-    pub stands-behind : k ≤ i → cond {A = ℕ} (lex x y (ltb i k)) 1 0 ≡ 0
-    unfolding lex
-    stands-behind h = rw (le-ltb x y (omega arith), eq-eqb x y e, le-ltb i k h)
+pub stands-same : (x y i k : ℕ) → x ≡ y → cond {A = ℕ} (lex x y (ltb i k)) 1 0 ≡ cond (ltb i k) 1 0
+unfolding lex
+stands-same x y i k e = rw (le-ltb x y (omega arith), eq-eqb x y e)
 
 -- one arc more, behind the others
 rank-more : (i : ℕ) (p : Pick) (xs : List Arc) (a : Arc) → rank_from i p (xs ++ (a ∷ [])) ≡ rank_from i p xs + cond {A = ℕ} (lex a.from p.start (ltb (i + length xs) p.at)) 1 0
@@ -98,22 +95,22 @@ unfolding rank
 rank-at-most p xs = rank-from-most 0 p xs
 
 -- a byte more
-pub rank-next : (x : Fed) (b : ℕ) (j : Judged)
-    → rank (pick_of j) x.said.arcs + stands_next j (length x.said.arcs) (reader_of (feed_byte x b)) ≡ rank (pick_of j) (feed_byte x b).said.arcs
+pub rank-next : (x : Fed) (b f : ℕ) (j : Place)
+    → rank (pick_at f j) x.said.arcs + stands_next j (length x.said.arcs) (reader_of (feed_byte x b)) ≡ rank (pick_at f j) (feed_byte x b).said.arcs
 unfolding stands_next stands_by rank
-rank-next x b j = go (feed-grows x b)
+rank-next x b f j = go (feed-grows x b)
   where
     y : Said
     y = (feed_byte x b).said
 
     go : Kept x.said y ⊎ One x.said y
-        → rank_from 0 (pick_of j) x.said.arcs
+        → rank_from 0 (pick_at f j) x.said.arcs
         + cond (eqb (length y.arcs) (length x.said.arcs)) 0 (cond {A = ℕ} (lex (last_arc y.arcs).from j.start (ltb (length x.said.arcs) j.at)) 1 0)
-        ≡ rank_from 0 (pick_of j) y.arcs
+        ≡ rank_from 0 (pick_at f j) y.arcs
     go (inl k) =
-        rw (eq-eqb (length y.arcs) (length x.said.arcs) (ap length k.arcs)) (omega arith ∙ ap (rank_from 0 (pick_of j)) (sym k.arcs))
+        rw (eq-eqb (length y.arcs) (length x.said.arcs) (ap length k.arcs)) (omega arith ∙ ap (rank_from 0 (pick_at f j)) (sym k.arcs))
     go (inr o) =
         let n : length y.arcs ≡ length x.said.arcs + 1 = ap length o.arcs ∙ length-append x.said.arcs (last_arc y.arcs ∷ []) in
         rw (ne_eqb (length y.arcs) (length x.said.arcs) (λ z. omega arith))
-        (ap (λ i. rank_from 0 (pick_of j) x.said.arcs + cond {A = ℕ} (lex (last_arc y.arcs).from j.start (ltb i j.at)) 1 0) (omega arith)
-        ∙ sym (rank-more 0 (pick_of j) x.said.arcs (last_arc y.arcs)) ∙ ap (rank_from 0 (pick_of j)) (sym o.arcs))
+        (ap (λ i. rank_from 0 (pick_at f j) x.said.arcs + cond {A = ℕ} (lex (last_arc y.arcs).from j.start (ltb i j.at)) 1 0) (omega arith)
+        ∙ sym (rank-more 0 (pick_at f j) x.said.arcs (last_arc y.arcs)) ∙ ap (rank_from 0 (pick_at f j)) (sym o.arcs))

@@ -3,7 +3,7 @@ use mathlib.Core.Path.{◌≡◌, refl, ap, ◌∙◌}
 use mathlib.Core.List.{List, [], ◌∷◌, ◌++◌}
 use Prim.Native.Nat.{ℕ}
 use Rattle.road_line.specs.Line.{Line, other}
-use Rattle.road_line.specs.Scan.{start_of, expected_at, started, spoilt, scan_byte, scan_from, scanned, read_of}
+use Rattle.road_line.specs.Scan.{start_of, expected_at, unknown, numbered, commented, whole_as, started, spoilt, scan_byte, scan_from, scanned, read_of}
 use Rattle.road_line.specs.declared.Scan.{Scan}
 
 -- the line that ends with l, from the state x on
@@ -11,7 +11,7 @@ abbrev pub ending : Scan → List ℕ → Line
 ending x l = read_of (scan_from x l)
 
 pub other-stays : (l : List ℕ) → ending spoilt l ≡ other
-unfolding scan_from scan_byte expected_at start_of read_of
+unfolding scan_from scan_byte unknown numbered commented expected_at start_of read_of whole_as
 other-stays [] = refl
 other-stays (b ∷ l) = other-stays l
 

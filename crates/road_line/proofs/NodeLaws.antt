@@ -8,7 +8,9 @@ use lib.Dec.{eqb}
 use borrow.Author.Tests.{eqb-false}
 use Rattle.lists.proofs.Cases.{cases, order}
 use Rattle.road_line.specs.Line.{arc, arc_with}
-use Rattle.road_line.specs.Scan.{whole_of, read_of}
+use Rattle.road_line.specs.Scan.{whole_as, commented, read_of}
+use Rattle.road_line.specs.declared.Kind.{Kind}
+use Rattle.road_line.specs.declared.Kind.TheVariants as kinds
 use Rattle.road_line.specs.declared.Scan.{Scan}
 
 pub positive : (u : ℕ) → eqb u 0 ≡ false → 1 ≤ u
@@ -27,21 +29,20 @@ with-nodes u d m t h n e = go (cases (eqb u 0)) (cases (eqb d 0))
         let b : d ≡ h = cc in
         (omega (arith, positive u z), omega (arith, positive d w))
 
-whole-nodes : (x : Scan) (t h n : ℕ) → whole_of x ≡ arc t h n → (1 ≤ t) × (1 ≤ h)
-unfolding whole_of
-whole-nodes x t h n e = go (cases (eqb x.kind 1)) (cases (eqb x.kind 2))
-  where
-    go : (eqb x.kind 1 ≡ true) ⊎ (eqb x.kind 1 ≡ false) → (eqb x.kind 2 ≡ true) ⊎ (eqb x.kind 2 ≡ false) → (1 ≤ t) × (1 ≤ h)
-    go (inl k) m = absurd (let q = rw k at e in let y : ◌≡◌ {A = ℕ} 0 1 = cc in omega arith)
-    go (inr k) (inl m) = with-nodes x.first x.second x.value t h n (rw (k, m) at e)
-    go (inr k) (inr m) = absurd (let q = rw (k, m) at e in let y : ◌≡◌ {A = ℕ} 0 1 = cc in omega arith)
+whole-nodes : (k : Kind) (x : Scan) (t h n : ℕ) → whole_as k x ≡ arc t h n → (1 ≤ t) × (1 ≤ h)
+unfolding whole_as
+whole-nodes kinds.Unknown x t h n e = absurd (let y : ◌≡◌ {A = ℕ} 0 1 = cc in omega arith)
+whole-nodes kinds.Sizes x t h n e = absurd (let y : ◌≡◌ {A = ℕ} 0 1 = cc in omega arith)
+whole-nodes kinds.Arc x t h n e = with-nodes x.first x.second x.value t h n e
+whole-nodes kinds.Comment x t h n e = absurd (let y : ◌≡◌ {A = ℕ} 0 1 = cc in omega arith)
+whole-nodes kinds.Other x t h n e = absurd (let y : ◌≡◌ {A = ℕ} 0 1 = cc in omega arith)
 
 -- so the nodes of an arc that was read may be counted from 0
 pub read-nodes : (x : Scan) (t h n : ℕ) → read_of x ≡ arc t h n → (1 ≤ t) × (1 ≤ h)
 unfolding read_of
-read-nodes x t h n e = go (cases (eqb x.kind 3)) (cases (x.begun && eqb x.left 0))
+read-nodes x t h n e = go (cases (commented x.kind)) (cases (x.begun && eqb x.left 0))
   where
-    go : (eqb x.kind 3 ≡ true) ⊎ (eqb x.kind 3 ≡ false) → ((x.begun && eqb x.left 0) ≡ true) ⊎ ((x.begun && eqb x.left 0) ≡ false) → (1 ≤ t) × (1 ≤ h)
+    go : (commented x.kind ≡ true) ⊎ (commented x.kind ≡ false) → ((x.begun && eqb x.left 0) ≡ true) ⊎ ((x.begun && eqb x.left 0) ≡ false) → (1 ≤ t) × (1 ≤ h)
     go (inl c) w = absurd (let q = rw c at e in let y : ◌≡◌ {A = ℕ} 0 1 = cc in omega arith)
-    go (inr c) (inl w) = whole-nodes x t h n (rw (c, w) at e)
+    go (inr c) (inl w) = whole-nodes x.kind x t h n (rw (c, w) at e)
     go (inr c) (inr w) = absurd (let q = rw (c, w) at e in let y : ◌≡◌ {A = ℕ} 0 1 = cc in omega arith)

@@ -17,26 +17,27 @@ use Rattle.lists.proofs.Cases.{cases}
 use Rattle.numerals.specs.Decimal.{most_number, is_digit, digits, value_after, value, well_formed, Number, number_of, number}
 use Rattle.numerals.proofs.DecimalLaws.{digit-e, value_grows}
 use Rattle.road_line.specs.Line.{Line, other, prepend, last_number, with_number, past, numbers_in}
-use Rattle.road_line.specs.Scan.{expected_at, spoilt, grown_by, with_digit, with_space, number_byte, scan_byte, scan_from, whole_of, read_of}
+use Rattle.road_line.specs.Scan.{expected_at, unknown, numbered, commented, spoilt, grown_by, with_digit, with_space, number_byte, scan_byte, scan_from, whole_of, read_of}
+use Rattle.road_line.specs.declared.Kind.{Kind}
 use Rattle.road_line.specs.declared.Scan.{Scan}
 use Rattle.road_line.proofs.EndingLaws.{ending, moves, spoils}
 use Rattle.road_line.proofs.NumbersLaws.{Sized, numbers-sized}
 
 -- ---- a state in the numbers of a line
 
-abbrev pub reading : ℕ → ℕ → ℕ → ℕ → ℕ → Bool → ℕ → Scan
+abbrev pub reading : Kind → ℕ → ℕ → ℕ → ℕ → Bool → ℕ → Scan
 reading k a f s n g v = record { kind = k; at = a; left = n; begun = g; value = v; first = f; second = s }
 
 -- the line whose last number is v
-abbrev pub answer : ℕ → ℕ → ℕ → ℕ → ℕ → Line
+abbrev pub answer : Kind → ℕ → ℕ → ℕ → ℕ → Line
 answer k a f s v = whole_of (reading k a f s 0 true v)
 
 -- the line, where the number v in hand takes m bytes of l and n more are to come
-next : ℕ → ℕ → ℕ → ℕ → ℕ → ℕ → ℕ → List ℕ → Line
+next : Kind → ℕ → ℕ → ℕ → ℕ → ℕ → ℕ → List ℕ → Line
 next k a f s zero v m l = cond (eqb m (length l)) (answer k a f s v) other
 next k a f s (suc n) v m l = cond (eqb (get_or l m 0) 32) (ending (reading k a s v n false 0) (drop (m + 1) l)) other
 
-next_more : (k a f s n v m b : ℕ) (l : List ℕ) → next k a f s n v (suc m) (b ∷ l) ≡ next k a f s n v m l
+next_more : (k : Kind) (a f s n v m b : ℕ) (l : List ℕ) → next k a f s n v (suc m) (b ∷ l) ≡ next k a f s n v m l
 unfolding next
 next_more k a f s zero v m b l = rw (eqb-suc-suc m (length l))
 next_more k a f s (suc n) v m b l = rw (add-one (suc m), add-one m)
@@ -70,37 +71,37 @@ unfolding grown_by
 grown-more v b z = rw z
 
 -- the line, where the digits at the front of l end the number v so far
-due : ℕ → ℕ → ℕ → ℕ → ℕ → ℕ → List ℕ → Line
+due : Kind → ℕ → ℕ → ℕ → ℕ → ℕ → List ℕ → Line
 unfolding goes next
 due k a f s n v l = cond (goes v (digits l) && leb (value_after v (digits l)) most_number) (next k a f s n (value_after v (digits l)) (length (digits l)) l) other
 
-due-digit : (k a f s n v b : ℕ) (l : List ℕ) → is_digit b ≡ true
+due-digit : (k : Kind) (a f s n v b : ℕ) (l : List ℕ) → is_digit b ≡ true
     → due k a f s n v (b ∷ l)
     ≡ cond (not (eqb v 0) && leb (value_after (v * 10 + (b - 48)) (digits l)) most_number) (next k a f s n (value_after (v * 10 + (b - 48)) (digits l)) (length (digits l)) l) other
 unfolding due digits goes value_after
 due-digit k a f s n v b l d = rw d (rw (next_more k a f s n (value_after (v * 10 + (b - 48)) (digits l)) (length (digits l)) b l))
 
-due-on : (k a f s n w : ℕ) (l : List ℕ) → eqb w 0 ≡ false → due k a f s n w l ≡ cond (leb (value_after w (digits l)) most_number) (next k a f s n (value_after w (digits l)) (length (digits l)) l) other
+due-on : (k : Kind) (a f s n w : ℕ) (l : List ℕ) → eqb w 0 ≡ false → due k a f s n w l ≡ cond (leb (value_after w (digits l)) most_number) (next k a f s n (value_after w (digits l)) (length (digits l)) l) other
 unfolding due
 due-on k a f s n w l e = rw (goes_on w (digits l) e)
 
-due-end : (k a f s n v b : ℕ) (l : List ℕ) → is_digit b ≡ false → v ≤ most_number → due k a f s n v (b ∷ l) ≡ next k a f s n v 0 (b ∷ l)
+due-end : (k : Kind) (a f s n v b : ℕ) (l : List ℕ) → is_digit b ≡ false → v ≤ most_number → due k a f s n v (b ∷ l) ≡ next k a f s n v 0 (b ∷ l)
 unfolding due digits goes value_after
 due-end k a f s n v b l d h = rw d (rw (le-leb v most_number h))
 
 -- the line, where the number at the front of l comes next
-with_read : ℕ → ℕ → ℕ → ℕ → ℕ → List ℕ → Option Number → Line
+with_read : Kind → ℕ → ℕ → ℕ → ℕ → List ℕ → Option Number → Line
 unfolding next
 with_read k a f s n l none = other
 with_read k a f s n l (some x) = next k a f s n x.is x.takes l
 
 -- the line of the numbers that are left, after f and s
-unfoldable pub final : ℕ → ℕ → ℕ → ℕ → List ℕ → Line
+unfoldable pub final : Kind → ℕ → ℕ → ℕ → List ℕ → Line
 final k a f s [] = other
 final k a f s (v ∷ []) = answer k a f s v
 final k a f s (v ∷ w ∷ vs) = final k a s v (w ∷ vs)
 
-unfoldable pub line_for : ℕ → ℕ → ℕ → ℕ → Option (List ℕ) → Line
+unfoldable pub line_for : Kind → ℕ → ℕ → ℕ → Option (List ℕ) → Line
 unfolding final
 line_for k a f s none = other
 line_for k a f s (some vs) = final k a f s vs
@@ -117,7 +118,7 @@ number-goes b ds h =
     let e : 0 * 10 + (b - 48) ≡ b - 48 = omega arith in
     rw (formed-goes b ds h) (rw e)
 
-due-number : (k a f s n b : ℕ) (l : List ℕ) → is_digit b ≡ true → due k a f s n (b - 48) l ≡ with_read k a f s n (b ∷ l) (number (b ∷ l))
+due-number : (k : Kind) (a f s n b : ℕ) (l : List ℕ) → is_digit b ≡ true → due k a f s n (b - 48) l ≡ with_read k a f s n (b ∷ l) (number (b ∷ l))
 unfolding due with_read
 due-number k a f s n b l d =
     let w = value_after (b - 48) (digits l) in
@@ -127,7 +128,7 @@ due-number k a f s n b l d =
 -- ---- the numbers in a row
 
 -- a number more before others
-line-shift : (k a f s v n : ℕ) (o : Option (List ℕ)) → Sized (suc n) o → line_for k a s v o ≡ line_for k a f s (prepend v o)
+line-shift : (k : Kind) (a f s v n : ℕ) (o : Option (List ℕ)) → Sized (suc n) o → line_for k a s v o ≡ line_for k a f s (prepend v o)
 unfolding line_for final prepend
 line-shift k a f s v n none h = refl
 line-shift k a f s v n (some []) h = absurd (omega arith)
@@ -135,7 +136,7 @@ line-shift k a f s v n (some (w ∷ vs)) h = refl
 
 -- ---- the numbers of a line are scanned
 
-module _ (k a : ℕ) (known : eqb k 0 ≡ false) (whole : expected_at k a ≡ 256) (few : ltb 2 k ≡ false) (plain : eqb k 3 ≡ false) where
+module _ (k : Kind) (a : ℕ) (known : unknown k ≡ false) (whole : expected_at k a ≡ 256) (few : numbered k ≡ true) (plain : commented k ≡ false) where
   byte-is : (f s n v b : ℕ) (g : Bool) → scan_byte (reading k a f s n g v) b ≡ number_byte (reading k a f s n g v) b
   unfolding scan_byte
   byte-is f s n v b g = rw (known, whole, few)

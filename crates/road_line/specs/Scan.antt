@@ -2,37 +2,66 @@
 use Rattle.std.specs.Prelude.{Bool, true, false, ◌&&◌, cond, List, [], ◌∷◌, ℕ, ◌+◌, ◌-◌, ◌*◌, ltb, leb, eqb, get_or}
 use Rattle.numerals.specs.Decimal.{most_number, is_digit}
 use Rattle.road_line.specs.Line.{Line, comment, sizes, arc, other, comment_start, sizes_start, arc_start, arc_with}
+use Rattle.road_line.specs.declared.Kind.{Kind}
+use Rattle.road_line.specs.declared.Kind.TheVariants as kinds
 use Rattle.road_line.specs.declared.Scan.{Scan}
 use Rattle.road_line.specs.declared.Read.{Read}
 use Rattle.road_line.specs.declared.Read.TheVariants.{Comment, Sizes, Arc, Other}
 
--- What a line may be, by its first byte: 0 before that, 1 sizes, 2 an arc, 3 a comment, 4 other.
-unfoldable pub start_of : ℕ → List ℕ
-start_of kind = cond (eqb kind 1) sizes_start (cond (eqb kind 2) arc_start (cond (eqb kind 3) comment_start []))
+-- How a line of this kind starts.
+unfoldable pub start_of : Kind → List ℕ
+start_of kinds.Unknown = []
+start_of kinds.Sizes = sizes_start
+start_of kinds.Arc = arc_start
+start_of kinds.Comment = comment_start
+start_of kinds.Other = []
+
+-- Whether the first byte is still to come.
+unfoldable pub unknown : Kind → Bool
+unknown kinds.Unknown = true
+unknown kinds.Sizes = false
+unknown kinds.Arc = false
+unknown kinds.Comment = false
+unknown kinds.Other = false
+
+-- Whether numbers follow the start.
+unfoldable pub numbered : Kind → Bool
+numbered kinds.Unknown = false
+numbered kinds.Sizes = true
+numbered kinds.Arc = true
+numbered kinds.Comment = false
+numbered kinds.Other = false
 
 -- The byte at a place of a start; past its end 256, which is no byte.
-unfoldable pub expected_at : ℕ → ℕ → ℕ
+unfoldable pub expected_at : Kind → ℕ → ℕ
 unfolding start_of
 expected_at kind at = get_or (start_of kind) at 256
 
 -- A state with no number.
-abbrev pub state_of : ℕ → ℕ → ℕ → Scan
+abbrev pub state_of : Kind → ℕ → ℕ → Scan
 state_of kind at left = record { kind = kind; at = at; left = left; begun = false; value = 0; first = 0; second = 0 }
 
 abbrev pub started : Scan
-started = state_of 0 0 0
+started = state_of kinds.Unknown 0 0
 
 -- The line is other, whatever follows.
 abbrev pub spoilt : Scan
-spoilt = state_of 4 1 0
+spoilt = state_of kinds.Other 1 0
 
-unfoldable pub kind_of : ℕ → ℕ
+-- What a line with this first byte may be.
+unfoldable pub kind_of : ℕ → Kind
 unfolding expected_at
-kind_of b = cond (eqb (expected_at 3 0) b) 3 (cond (eqb (expected_at 1 0) b) 1 (cond (eqb (expected_at 2 0) b) 2 4))
+kind_of b =
+    cond (eqb (expected_at kinds.Comment 0) b) kinds.Comment
+    (cond (eqb (expected_at kinds.Sizes 0) b) kinds.Sizes (cond (eqb (expected_at kinds.Arc 0) b) kinds.Arc kinds.Other))
 
 -- How many numbers follow the first one.
-unfoldable pub left_of : ℕ → ℕ
-left_of kind = cond (eqb kind 1) 1 (cond (eqb kind 2) 2 0)
+unfoldable pub left_of : Kind → ℕ
+left_of kinds.Unknown = 0
+left_of kinds.Sizes = 1
+left_of kinds.Arc = 2
+left_of kinds.Comment = 0
+left_of kinds.Other = 0
 
 -- The first byte.
 unfoldable pub begun_by : ℕ → Scan
@@ -67,11 +96,11 @@ unfolding with_space with_digit
 number_byte x b = cond (eqb b 32) (with_space x) (cond (is_digit b) (with_digit x b) spoilt)
 
 unfoldable pub scan_byte : Scan → ℕ → Scan
-unfolding begun_by expected_at compared number_byte
+unfolding unknown begun_by expected_at compared numbered number_byte
 scan_byte x b =
-    cond (eqb x.kind 0) (begun_by b)
+    cond (unknown x.kind) (begun_by b)
     (cond (ltb (expected_at x.kind x.at) 256) (compared x b)
-    (cond (ltb 2 x.kind) x (number_byte x b)))
+    (cond (numbered x.kind) (number_byte x b) x))
 
 unfoldable pub scan_from : Scan → List ℕ → Scan
 unfolding scan_byte
@@ -82,16 +111,30 @@ scan_from x (b ∷ l) = scan_from (scan_byte x b) l
 abbrev pub scanned : List ℕ → Scan
 scanned l = scan_from started l
 
-unfoldable pub whole_of : Scan → Line
+-- What a line of this kind is whose numbers are whole.
+unfoldable pub whole_as : Kind → Scan → Line
 unfolding arc_with
-whole_of x =
-    cond (eqb x.kind 1) (sizes x.second x.value)
-    (cond (eqb x.kind 2) (arc_with x.first x.second x.value) other)
+whole_as kinds.Unknown x = other
+whole_as kinds.Sizes x = sizes x.second x.value
+whole_as kinds.Arc x = arc_with x.first x.second x.value
+whole_as kinds.Comment x = other
+whole_as kinds.Other x = other
+
+abbrev pub whole_of : Scan → Line
+whole_of x = whole_as x.kind x
+
+-- Whether such a line is a comment.
+unfoldable pub commented : Kind → Bool
+commented kinds.Unknown = false
+commented kinds.Sizes = false
+commented kinds.Arc = false
+commented kinds.Comment = true
+commented kinds.Other = false
 
 -- What the line is if it ends here: a line of numbers is whole where the last one has a digit.
 unfoldable pub read_of : Scan → Line
-unfolding whole_of
-read_of x = cond (eqb x.kind 3) comment (cond (x.begun && eqb x.left 0) (whole_of x) other)
+unfolding commented whole_as
+read_of x = cond (commented x.kind) comment (cond (x.begun && eqb x.left 0) (whole_of x) other)
 
 -- What each case of an answer means.
 abbrev pub line_is : Read → Line

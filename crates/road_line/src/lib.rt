@@ -7,7 +7,7 @@ ghost use Rattle.numerals.specs.Decimal.{is_digit};
 ghost use Rattle.road_line.specs.Line.{arc_with};
 ghost use Rattle.road_line.specs.Scan.{expected_at, state_of, started, spoilt, kind_of, left_of};
 ghost use Rattle.road_line.specs.Scan.{begun_by, compared, grown_by, with_digit, with_space};
-ghost use Rattle.road_line.specs.Scan.{number_byte, scan_byte, whole_of, read_of, line_is};
+ghost use Rattle.road_line.specs.Scan.{number_byte, scan_byte, read_of, line_is};
 
 const MOST: u64 = 4294967295;
 
@@ -18,21 +18,21 @@ const SPACE: u8 = 32;
 // No byte of a start.
 const NO_BYTE: u16 = 256;
 
-const UNKNOWN: u8 = 0;
-
-const SIZES: u8 = 1;
-
-const ARC: u8 = 2;
-
-const COMMENT: u8 = 3;
-
-const OTHER: u8 = 4;
+// What a line may be by its first byte, and before that unknown.
+#[derive(Clone, Copy, Debug, PartialEq, Eq)]
+pub enum Kind {
+    Unknown,
+    Sizes,
+    Arc,
+    Comment,
+    Other,
+}
 
 // The state after some bytes of a line: what it may yet be, how many bytes of its start stand, how
 // many numbers follow the one in hand, whether that has a digit, its value, and the two before it.
-#[derive(Clone, Copy)]
+#[derive(Clone, Copy, Debug, PartialEq, Eq)]
 pub struct Scan {
-    pub kind: u8,
+    pub kind: Kind,
     pub at: u8,
     pub left: u8,
     pub begun: bool,
@@ -42,7 +42,7 @@ pub struct Scan {
 }
 
 // What a line is: nodes and arcs; tail, head and length.
-#[derive(Clone, Copy)]
+#[derive(Clone, Copy, Debug, PartialEq, Eq)]
 pub enum Read {
     Comment,
     Sizes(u32, u32),
@@ -51,13 +51,13 @@ pub enum Read {
 }
 
 // A state with no number.
-fn state(kind: u8, at: u8, left: u8) -> Scan
+fn state(kind: Kind, at: u8, left: u8) -> Scan
     ensures { result ≡ state_of kind at left }
 {
     Scan {
-        kind: kind,
-        at: at,
-        left: left,
+        kind,
+        at,
+        left,
         begun: false,
         value: 0,
         first: 0,
@@ -69,14 +69,14 @@ fn state(kind: u8, at: u8, left: u8) -> Scan
 pub fn start() -> Scan
     ensures { result ≡ started }
 {
-    state(UNKNOWN, 0, 0)
+    state(Kind::Unknown, 0, 0)
 }
 
 // The line is other, whatever follows.
 fn spoil() -> Scan
     ensures { result ≡ spoilt }
 {
-    state(OTHER, 1, 0)
+    state(Kind::Other, 1, 0)
 }
 
 // The byte at a place of s, or past its end no byte.
@@ -90,53 +90,51 @@ fn byte_of(s: &[u8], at: usize) -> u16
 }
 
 // The byte at a place of the start of such lines.
-fn expected(kind: u8, at: u8) -> u16
+#[tactic(auto, unfolding(crate::specs::Scan::expected_at, crate::specs::Scan::start_of))]
+fn expected(kind: Kind, at: u8) -> u16
     ensures { result ≡ expected_at kind at }
 {
     let place = at as usize;
-    if kind == SIZES {
-        return byte_of(b"p sp ", place);
+    match kind {
+        Kind::Sizes => byte_of(b"p sp ", place),
+        Kind::Arc => byte_of(b"a ", place),
+        Kind::Comment => byte_of(b"c ", place),
+        Kind::Unknown | Kind::Other => NO_BYTE,
     }
-    if kind == ARC {
-        return byte_of(b"a ", place);
-    }
-    if kind == COMMENT {
-        return byte_of(b"c ", place);
-    }
-    NO_BYTE
 }
 
 // What a line with this first byte may be.
-fn kind_of(byte: u8) -> u8
+#[tactic(auto, unfolding(crate::specs::Scan::kind_of))]
+fn kind_of(byte: u8) -> Kind
     ensures { result ≡ kind_of byte }
 {
     let first = byte as u16;
-    if expected(COMMENT, 0) == first {
-        return COMMENT;
+    if expected(Kind::Comment, 0) == first {
+        return Kind::Comment;
     }
-    if expected(SIZES, 0) == first {
-        return SIZES;
+    if expected(Kind::Sizes, 0) == first {
+        return Kind::Sizes;
     }
-    if expected(ARC, 0) == first {
-        return ARC;
+    if expected(Kind::Arc, 0) == first {
+        return Kind::Arc;
     }
-    OTHER
+    Kind::Other
 }
 
 // How many numbers follow the first one.
-fn left_of(kind: u8) -> u8
+#[tactic(auto, unfolding(crate::specs::Scan::left_of))]
+fn left_of(kind: Kind) -> u8
     ensures { result ≡ left_of kind }
 {
-    if kind == SIZES {
-        return 1;
+    match kind {
+        Kind::Sizes => 1,
+        Kind::Arc => 2,
+        Kind::Unknown | Kind::Comment | Kind::Other => 0,
     }
-    if kind == ARC {
-        return 2;
-    }
-    0
 }
 
 // The first byte.
+#[tactic(auto, unfolding(crate::specs::Scan::begun_by))]
 fn begin(byte: u8) -> Scan
     ensures { result ≡ begun_by byte }
 {
@@ -145,6 +143,7 @@ fn begin(byte: u8) -> Scan
 }
 
 // A byte of the start.
+#[tactic(auto, using(crate::proofs::StartLaws::in_start), unfolding(crate::specs::Scan::compared))]
 fn compare(x: Scan, byte: u8) -> Scan
     requires { expected_at x.kind x.at < 256 }
     ensures { result ≡ compared x byte }
@@ -158,13 +157,11 @@ fn compare(x: Scan, byte: u8) -> Scan
 fn is_digit(byte: u8) -> bool
     ensures { result ≡ is_digit byte }
 {
-    if byte < b'0' {
-        return false;
-    }
-    byte <= b'9'
+    byte.is_ascii_digit()
 }
 
 // The number with one digit more; where a zero leads, one that is too large.
+#[tactic(auto, unfolding(crate::specs::Scan::grown_by))]
 fn grown(begun: bool, value: u32, byte: u8) -> u64
     requires { is_digit byte ≡ true }
     ensures { result ≡ grown_by begun value byte }
@@ -180,6 +177,7 @@ fn grown(begun: bool, value: u32, byte: u8) -> u64
 }
 
 // A digit of the number in hand.
+#[tactic(auto, unfolding(crate::specs::Scan::with_digit))]
 fn with_digit(x: Scan, byte: u8) -> Scan
     requires { is_digit byte ≡ true }
     ensures { result ≡ with_digit x byte }
@@ -189,38 +187,32 @@ fn with_digit(x: Scan, byte: u8) -> Scan
         return spoil();
     }
     Scan {
-        kind: x.kind,
-        at: x.at,
-        left: x.left,
         begun: true,
         value: n as u32,
-        first: x.first,
-        second: x.second,
+        ..x
     }
 }
 
 // The space after a number that another one follows.
+#[tactic(auto, unfolding(crate::specs::Scan::with_space))]
 fn with_space(x: Scan) -> Scan
     ensures { result ≡ with_space x }
 {
-    if !x.begun {
-        return spoil();
-    }
-    if x.left == 0 {
+    if !x.begun || x.left == 0 {
         return spoil();
     }
     Scan {
-        kind: x.kind,
-        at: x.at,
         left: x.left - 1,
         begun: false,
         value: 0,
         first: x.second,
         second: x.value,
+        ..x
     }
 }
 
 // A byte after the start of a line of numbers.
+#[tactic(auto, unfolding(crate::specs::Scan::number_byte))]
 fn number_byte(x: Scan, byte: u8) -> Scan
     ensures { result ≡ number_byte x byte }
 {
@@ -234,66 +226,45 @@ fn number_byte(x: Scan, byte: u8) -> Scan
 }
 
 // The state after one byte more, which is no newline.
+#[tactic(auto, unfolding(crate::specs::Scan::scan_byte, crate::specs::Scan::unknown, crate::specs::Scan::numbered))]
 pub fn scan_byte(x: Scan, byte: u8) -> Scan
     ensures { result ≡ scan_byte x byte }
 {
-    if x.kind == UNKNOWN {
-        return begin(byte);
+    match x.kind {
+        Kind::Unknown => begin(byte),
+        kind if expected(kind, x.at) < NO_BYTE => compare(x, byte),
+        Kind::Sizes | Kind::Arc => number_byte(x, byte),
+        Kind::Comment | Kind::Other => x,
     }
-    if expected(x.kind, x.at) < NO_BYTE {
-        return compare(x, byte);
-    }
-    if ARC < x.kind {
-        return x;
-    }
-    number_byte(x, byte)
 }
 
 // An arc, whose nodes are counted from 1.
+#[tactic(auto, unfolding(crate::specs::Line::arc_with))]
 fn arc_read(tail: u32, head: u32, length: u32) -> Read
     ensures { line_is result ≡ arc_with tail head length }
 {
-    if tail == 0 {
-        return Read::Other;
-    }
-    if head == 0 {
+    if tail == 0 || head == 0 {
         return Read::Other;
     }
     Read::Arc(tail, head, length)
-}
-
-// A line whose numbers are whole.
-fn whole(x: Scan) -> Read
-    ensures { line_is result ≡ whole_of x }
-{
-    if x.kind == SIZES {
-        return Read::Sizes(x.second, x.value);
-    }
-    if x.kind == ARC {
-        return arc_read(x.first, x.second, x.value);
-    }
-    Read::Other
 }
 
 // Whether the number in hand has a digit and is the last one.
 fn at_last(x: Scan) -> bool
     ensures { result ≡ (x.begun && eqb x.left 0) }
 {
-    if x.begun {
-        return x.left == 0;
-    }
-    false
+    x.begun && x.left == 0
 }
 
 // What the line is that ends here.
+#[tactic(auto, unfolding(crate::specs::Scan::read_of, crate::specs::Scan::whole_as, crate::specs::Scan::commented))]
 pub fn ended(x: Scan) -> Read
     ensures { line_is result ≡ read_of x }
 {
-    if x.kind == COMMENT {
-        return Read::Comment;
+    match x.kind {
+        Kind::Comment => Read::Comment,
+        Kind::Sizes if at_last(x) => Read::Sizes(x.second, x.value),
+        Kind::Arc if at_last(x) => arc_read(x.first, x.second, x.value),
+        _ => Read::Other,
     }
-    if at_last(x) {
-        return whole(x);
-    }
-    Read::Other
 }

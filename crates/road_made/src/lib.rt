@@ -1,22 +1,22 @@
-// How a call that makes a table or a text ended, and the same as numbers.
+// What a call that makes a table or a text gives, and the same as numbers.
 #![tactic(auto)]
 
 ghost use Rattle.std.specs.Prelude.{◌≡◌};
 ghost use Rattle.road_made.specs.Made.{numbers_of};
 
-// How it ended.
-#[derive(Clone, Copy)]
-pub enum Made {
-    // Its bytes, and the node count of a table; a text has none.
-    Done(usize, u32),
-    // An outcome, and the number beside it.
-    Refused(u32, u32),
+use outcome::{Outcome, Refusal, Told};
+
+// What was made: its bytes, and the node count of a table; a text has none.
+#[derive(Clone, Copy, Debug, PartialEq, Eq)]
+pub struct Made {
+    pub bytes: usize,
+    pub nodes: u32,
 }
 
 // For callers that can be handed no enum: outcome, the number beside it, the bytes made, and the node
 // count of a table.
 #[repr(C)]
-#[derive(Clone, Copy)]
+#[derive(Clone, Copy, Debug, PartialEq, Eq)]
 pub struct MadeNumbers {
     pub outcome: u32,
     pub number: u32,
@@ -24,22 +24,26 @@ pub struct MadeNumbers {
     pub nodes: u32,
 }
 
-// The numbers of an answer.
-pub fn numbers(made: Made) -> MadeNumbers
-    ensures { result ≡ numbers_of made }
-{
-    match made {
-        Made::Done(bytes, nodes) => MadeNumbers {
-            outcome: outcome::FOUND,
-            number: 0,
-            bytes: bytes,
-            nodes: nodes,
-        },
-        Made::Refused(outcome, number) => MadeNumbers {
-            outcome: outcome,
-            number: number,
-            bytes: 0,
-            nodes: 0,
-        },
+impl From<Result<Made, Refusal>> for MadeNumbers {
+    ghost from_gives = { λ answer numbers. numbers ≡ numbers_of answer };
+
+    fn from(answer: Result<Made, Refusal>) -> MadeNumbers {
+        match answer {
+            Ok(made) => MadeNumbers {
+                outcome: Outcome::Found as u32,
+                number: 0,
+                bytes: made.bytes,
+                nodes: made.nodes,
+            },
+            Err(refusal) => {
+                let told = Told::from(refusal);
+                MadeNumbers {
+                    outcome: told.outcome,
+                    number: told.number,
+                    bytes: 0,
+                    nodes: 0,
+                }
+            }
+        }
     }
 }

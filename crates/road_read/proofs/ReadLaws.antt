@@ -9,13 +9,14 @@ use native.Mathlib.Omega.{arith}
 use lib.Dec.{leb, ltb}
 use lib.ListN.{length, drop}
 use borrow.Author.Tests.{lt-leb, le-leb, lt-ltb, le-ltb}
-use Rattle.outcome.specs.declared.Told.{Told}
-use Rattle.outcome.specs.Outcome.{file, buffers, size, plain, beside}
+use Rattle.std.proofs.Common.{Ok, Err}
+use Rattle.outcome.specs.declared.Refusal.{Refusal}
+use Rattle.outcome.specs.Outcome.{file, buffers, size, plain, beside, told_of}
+use Rattle.outcome.proofs.OutcomeLaws.{refused_not_zero}
 use Rattle.net.specs.Net.{Arc}
 use Rattle.table.specs.Table.{NoRoads}
 use Rattle.table.specs.Fault.{wrong_size, table_fault, good}
 use Rattle.table.proofs.TableLaws.{length-table_of, made-no-roads}
-use Rattle.table.proofs.FaultLaws.{told-good}
 use Rattle.net.specs.Limits.{most_nodes, most_arcs}
 use Rattle.road_order.specs.Ordered.{ordered}
 use Rattle.road_order.specs.Lowest.{Pick, rank}
@@ -26,8 +27,7 @@ use Rattle.road_file.proofs.EndLaws.{ended-good, ended-wrong}
 use Rattle.road_file.proofs.SmallLaws.{said-small}
 use Rattle.road_judge.specs.Judged.{pick_in}
 use Rattle.road_judge.proofs.FaultsLaws.{size_is, told_none, told-lowest, told-size}
-use Rattle.road_made.specs.declared.Made.{Made}
-use Rattle.road_made.specs.declared.Made.TheVariants.{Done, Refused}
+use Rattle.road_made.specs.Made.{Answer}
 use Rattle.road_read.specs.Read.{table_due, Tabled, ReadAs, Read}
 
 pub length-due : (arcs : List Arc) → length (table_due arcs) ≡ length arcs * 16
@@ -43,43 +43,41 @@ module _ (text table : List ℕ) where
   abbrev nodes : ℕ
   nodes = (feed unfed text).said.nodes
 
-  pub read-malformed : wrong_by (reader_of (feed unfed text)) ≢ 0 → Read text table (Refused file (wrong_by (reader_of (feed unfed text)))) table
+  -- an answer that is refused, with the table as it was
+  pub read-malformed : (refusal : Refusal) → told_of refusal ≡ beside file (wrong_by (reader_of (feed unfed text))) → wrong_by (reader_of (feed unfed text)) ≢ 0 → Read text table (Err refusal) table
   unfolding roads_in
-  read-malformed ne =
-      subst (λ r. ReadAs r table (Refused file (wrong_by (reader_of (feed unfed text)))) table) (sym (ended-wrong (feed unfed text) ne))
-      (record { told_is = refl; bytes-is = refl; nodes-is = refl; area-is = refl })
+  read-malformed refusal e ne =
+      subst (λ r. ReadAs r table (Err refusal) table) (sym (ended-wrong (feed unfed text) ne)) (record { told_is = e; bytes-is = refl; nodes-is = refl; area-is = refl })
 
   module _ (fine : wrong_by (reader_of (feed unfed text)) ≡ 0) where
-    tabled : (answer : Made) (table' : List ℕ) → Tabled nodes arcs table answer table' → Read text table answer table'
+    tabled : (answer : Answer) (table' : List ℕ) → Tabled nodes arcs table answer table' → Read text table answer table'
     unfolding roads_in
     tabled answer table' t = subst (λ r. ReadAs r table answer table') (sym (ended-good (feed unfed text) fine)) t
 
-    pub read-faulty : (told : Told) → told ≡ table_fault nodes (table_due arcs) → told.outcome ≢ 0 → Read text table (Refused told.outcome told.number) table
-    read-faulty told e ne =
-        tabled (Refused told.outcome told.number) table
+    pub read-faulty : (refusal : Refusal) → told_of refusal ≡ table_fault nodes (table_due arcs) → Read text table (Err refusal) table
+    read-faulty refusal e =
+        let ne = refused_not_zero refusal in
+        tabled (Err refusal) table
         (record {
           faulty = λ k. record { told_is = e; bytes-is = refl; nodes-is = refl; area-is = refl };
           small = λ k h. absurd (ne (ap (λ z. z.outcome) (e ∙ k)));
           done = λ k h. absurd (ne (ap (λ z. z.outcome) (e ∙ k)));
         })
 
-    module _ (told : Told) (e : told ≡ table_fault nodes (table_due arcs)) (none : told.outcome ≡ 0) where
-      is-good : table_fault nodes (table_due arcs) ≡ good
-      is-good = told-good nodes (table_due arcs) (sym (ap (λ z. z.outcome) e) ∙ none)
-
-      pub read_small : length table < length (table_due arcs) → Read text table (Refused buffers 0) table
-      read_small h =
-          tabled (Refused buffers 0) table
+    module _ (is-good : table_fault nodes (table_due arcs) ≡ good) where
+      pub read_small : (refusal : Refusal) → told_of refusal ≡ plain buffers → length table < length (table_due arcs) → Read text table (Err refusal) table
+      read_small refusal e h =
+          tabled (Err refusal) table
           (record {
             faulty = λ k. absurd (k is-good);
-            small = λ k l. record { told_is = refl; bytes-is = refl; nodes-is = refl; area-is = refl };
+            small = λ k l. record { told_is = e; bytes-is = refl; nodes-is = refl; area-is = refl };
             done = λ k l. absurd (omega arith);
           })
 
       pub read_done : (n m : ℕ) (table' : List ℕ) → n ≡ length (table_due arcs) → m ≡ nodes → length (table_due arcs) ≤ length table
-          → table' ≡ table_due arcs ++ drop (length (table_due arcs)) table → Read text table (Done n m) table'
+          → table' ≡ table_due arcs ++ drop (length (table_due arcs)) table → Read text table (Ok (record { bytes = n; nodes = m })) table'
       read_done n m table' i j h z =
-          tabled (Done n m) table'
+          tabled (Ok (record { bytes = n; nodes = m })) table'
           (record { faulty = λ k. absurd (k is-good); small = λ k l. absurd (omega arith); done = λ k l. record { told_is = refl; bytes-is = i; nodes-is = j; area-is = z } })
 
 -- ---- the fault, by the tests of the code

@@ -2,63 +2,63 @@
 #![tactic(auto)]
 
 ghost use Rattle.std.specs.Prelude.{◌≡◌};
+ghost use Rattle.outcome.specs.Outcome.{told_by};
 ghost use Rattle.table.specs.Fault.{table_fault};
 ghost use Rattle.road_file.specs.File.{unfed, feed};
 ghost use Rattle.road_file.specs.Reader.{reader_of};
 ghost use Rattle.road_judge.specs.Judged.{pick_of, pick_in};
 ghost use Rattle.road_read.specs.Read.{table_due, Read};
 
-use outcome::Told;
-use road_judge::Found;
+use outcome::{Outcome, Refusal};
+use road_judge::Judged;
 use road_made::Made;
 
 // 13 and 2 to 4 of the table that is due, from the text that was judged.
-fn fault_in(text: &[u8], found: Found) -> Told
-    requires { (found.reader ≡ reader_of (feed unfed text.now))
-        × (pick_of found.judged ≡ pick_in (feed unfed text.now)) }
-    ensures { result ≡ table_fault (feed unfed text.now).said.nodes
+fn fault_in(text: &[u8], judged: Judged) -> Result<(), Refusal>
+    requires { (judged.reader ≡ reader_of (feed unfed text.now))
+        × (pick_of judged.faulty ≡ pick_in (feed unfed text.now)) }
+    ensures { told_by result ≡ table_fault (feed unfed text.now).said.nodes
         (table_due (feed unfed text.now).said.arcs) }
 {
-    let reader = found.reader;
-    let judged = found.judged;
-    if reader.nodes < 1 {
-        return outcome::plain(outcome::SIZE);
-    }
-    if table::fault::MOST_NODES < reader.nodes {
-        return outcome::plain(outcome::SIZE);
+    let reader = judged.reader;
+    if reader.nodes < 1 || table::fault::MOST_NODES < reader.nodes {
+        return Err(Refusal::plain(Outcome::Size));
     }
     if table::fault::MOST_ARCS < reader.count as usize {
-        return outcome::plain(outcome::SIZE);
+        return Err(Refusal::plain(Outcome::Size));
     }
-    if judged.fault == 0 {
-        return outcome::plain(outcome::FOUND);
-    }
-    Told {
-        outcome: judged.fault,
-        number: road_judge::rank_text(text, judged),
+    match judged.faulty {
+        Some(faulty) => Err(Refusal {
+            outcome: faulty.fault,
+            number: road_judge::rank_text(text, faulty.place),
+        }),
+        None => Ok(()),
     }
 }
 
 // The table of a road file, at the front of `table`: its bytes, and its node count. A malformed file
 // is refused with 14, then the table made as everywhere, then too short an area with 10; a refusal
 // changes nothing.
-pub fn read(text: &[u8], table: &mut [u8]) -> Made
+pub fn read(text: &[u8], table: &mut [u8]) -> Result<Made, Refusal>
     ensures { Read text.now table.old result table.new }
 {
-    let found = road_judge::judge_text(text);
-    let reader = found.reader;
+    let judged = road_judge::judge_text(text);
+    let reader = judged.reader;
     let line = road_file::wrong_line(reader);
     if line != 0 {
-        return Made::Refused(outcome::FILE, line);
+        return Err(Refusal {
+            outcome: Outcome::File,
+            number: line,
+        });
     }
-    let told = fault_in(text, found);
-    if told.outcome != outcome::FOUND {
-        return Made::Refused(told.outcome, told.number);
-    }
+    fault_in(text, judged)?;
     let arcs = reader.count as usize;
     if table.len() / table::arc::RECORD < arcs {
-        return Made::Refused(outcome::BUFFERS, 0);
+        return Err(Refusal::plain(Outcome::Buffers));
     }
     road_fill::make::make(text, table, arcs);
-    Made::Done(arcs * table::arc::RECORD, reader.nodes)
+    Ok(Made {
+        bytes: arcs * table::arc::RECORD,
+        nodes: reader.nodes,
+    })
 }

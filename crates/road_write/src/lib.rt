@@ -1,13 +1,14 @@
 // The road file of a table, written into a lent buffer.
 #![tactic(auto)]
 
-ghost use Rattle.std.specs.Prelude.{◌≡◌, ◌+◌, ◌≤◌, ◌<◌, length};
+ghost use Rattle.std.specs.Prelude.{◌≡◌, ◌+◌, ◌≤◌, ◌<◌, length, MatchOption};
 ghost use Rattle.net.specs.Limits.{most_arcs};
 ghost use Rattle.text_put.specs.Put.{Appended};
 ghost use Rattle.table.specs.Table.{records, arc_at, arcs_of};
 ghost use Rattle.road_write.specs.Text.{sizes_text, line_text, arc_text, ended, lines_text};
 ghost use Rattle.road_write.specs.Written.{text_of, first_road, Written};
 
+use outcome::{Outcome, Refusal};
 use road_made::Made;
 
 // How many bytes the first line takes.
@@ -35,10 +36,8 @@ fn needed(table: &[u8], nodes: u32) -> usize
 {
     let n = table.len() / table::arc::RECORD;
     let mut bytes = sizes_bytes(nodes, n);
-    let mut i = 0;
-    while i < n {
+    for i in 0..n {
         bytes += arc_bytes(table, i);
-        i += 1;
     }
     bytes
 }
@@ -52,7 +51,7 @@ fn sizes(out: &mut [u8], at: usize, nodes: u32, arcs: usize) -> usize
     let first = text_put::bytes(out, at, b"p sp ");
     let second = numerals::put(out, first, nodes as u64);
     let last = text_put::spaced(out, second, arcs as u64);
-    out[last] = 10;
+    out[last] = b'\n';
     last + 1
 }
 
@@ -66,7 +65,7 @@ fn line(out: &mut [u8], at: usize, tail: u64, head: u64, len: u64) -> usize
     let second = numerals::put(out, first, tail);
     let third = text_put::spaced(out, second, head);
     let last = text_put::spaced(out, third, len);
-    out[last] = 10;
+    out[last] = b'\n';
     last + 1
 }
 
@@ -89,12 +88,9 @@ fn lines(out: &mut [u8], at: usize, table: &[u8]) -> usize
     ensures { Appended out.old at (lines_text (arcs_of table.now))
         out.new result }
 {
-    let n = table.len() / table::arc::RECORD;
     let mut next = at;
-    let mut i = 0;
-    while i < n {
+    for i in 0..table.len() / table::arc::RECORD {
         next = arc_line(out, next, table, i);
-        i += 1;
     }
     next
 }
@@ -109,39 +105,38 @@ pub fn put(table: &[u8], nodes: u32, text: &mut [u8], at: usize) -> usize
     lines(text, first, table)
 }
 
-// The lowest record with a road number, which no road file carries; where there is none, the number
-// of records.
-fn first_road(table: &[u8]) -> usize
-    ensures { result ≡ first_road table.now }
+// The lowest record with a road number, which no road file carries.
+fn first_road(table: &[u8]) -> Option<usize>
+    ensures { MatchOption result (first_road table.now ≡ records table.now)
+        (λ i. (i < records table.now) × (i ≡ first_road table.now)) }
 {
-    let n = table.len() / table::arc::RECORD;
-    let mut i = 0;
-    while i < n {
+    for i in 0..table.len() / table::arc::RECORD {
         if table::arc::road_of(table, i) != 0 {
-            return i;
+            return Some(i);
         }
-        i += 1;
     }
-    n
+    None
 }
 
 // The road file of a table of so many nodes, at the front of `text`. A faulty table is refused as
 // everywhere, then one with a road number, with 27 and the lowest such record, then a buffer
 // shorter than the file, with 10; a refusal changes nothing.
-pub fn write(table: &[u8], nodes: u32, text: &mut [u8]) -> Made
+pub fn write(table: &[u8], nodes: u32, text: &mut [u8]) -> Result<Made, Refusal>
     ensures { Written nodes table.now text.old
         result text.new }
 {
-    let told = table::fault::check(table, nodes);
-    if told.outcome != outcome::FOUND {
-        return Made::Refused(told.outcome, told.number);
-    }
-    let road = first_road(table);
-    if road < table.len() / table::arc::RECORD {
-        return Made::Refused(outcome::NUMBERED, road as u32);
+    table::fault::check(table, nodes)?;
+    if let Some(road) = first_road(table) {
+        return Err(Refusal {
+            outcome: Outcome::Numbered,
+            number: road as u32,
+        });
     }
     if text.len() < needed(table, nodes) {
-        return Made::Refused(outcome::BUFFERS, 0);
+        return Err(Refusal::plain(Outcome::Buffers));
     }
-    Made::Done(put(table, nodes, text, 0), 0)
+    Ok(Made {
+        bytes: put(table, nodes, text, 0),
+        nodes: 0,
+    })
 }

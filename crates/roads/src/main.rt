@@ -7,20 +7,13 @@ mod shell;
 mod to_file;
 mod to_table;
 
-use numerals::Numeral;
 use std::env::{Env, FillError};
 
 // The node count that the argument is.
 fn with_nodes(word: &[u8]) {
     match numerals::read(word, 0) {
-        Numeral::Number(nodes, end) => {
-            if end == word.len() {
-                to_file::run(nodes);
-            } else {
-                shell::usage();
-            }
-        }
-        Numeral::NoNumber => shell::usage(),
+        Some(number) if number.next == word.len() => to_file::run(number.value),
+        _ => shell::usage(),
     }
 }
 

@@ -1,4 +1,15 @@
-// What the programs write to standard output, and what they say on standard error.
+// What the programs take of their input, what they write to standard output, and what they say on
+// standard error.
+use outcome::{Outcome, Refusal, Told};
+
+// The n bytes that were read, where the buffer is longer; else more may be to come.
+pub(crate) fn taken(buffer: &[u8], n: usize) -> Result<&[u8], Refusal> {
+    if n < buffer.len() {
+        Ok(&buffer[..n])
+    } else {
+        Err(Refusal::plain(Outcome::Buffers))
+    }
+}
 
 // The first n bytes, to standard output.
 pub(crate) fn show(bytes: &[u8], n: usize) {
@@ -19,10 +30,11 @@ pub(crate) fn nodes(v: u32) {
 }
 
 // An outcome, and the number beside it.
-pub(crate) fn refuse(outcome: u32, beside: u32) {
+pub(crate) fn refuse(refusal: Refusal) {
+    let told = Told::from(refusal);
     io::write_all(2, b"refused");
-    number(outcome);
-    number(beside);
+    number(told.outcome);
+    number(told.number);
     io::write_all(2, b"\n");
 }
 

@@ -3,7 +3,7 @@
 use mathlib.Core.Path.{◌≡◌, refl, sym, ap, subst, ◌∙◌}
 use mathlib.Core.Logic.{◌≢◌}
 use mathlib.Core.List.{List, []}
-use Prim.Native.Nat.{ℕ, zero, suc, pred, ◌+◌, ◌-◌, ◌*◌, ◌≤◌, ◌<◌}
+use Prim.Native.Nat.{ℕ, pred, ◌+◌, ◌-◌, ◌*◌, ◌≤◌, ◌<◌}
 use native.Mathlib.Omega.{arith}
 use lib.ListN.{length, get_or, length-take}
 use lib.Seq.{get_or-take}
@@ -23,6 +23,8 @@ use Rattle.round_label.specs.declared.State.{State}
 use Rattle.round.specs.declared.Ended.{Ended}
 use Rattle.round.specs.declared.Ended.TheVariants.{Answer, NoAnswer, Refused}
 use Rattle.round.specs.Round.{shown, area_after, Rounded}
+use Rattle.round_label.specs.declared.Stage.{Stage}
+use Rattle.round_label.specs.declared.Stage.TheVariants.{GoesOn, Answered, Unanswered, NoRoom}
 use Rattle.round_label.specs.Stage.{StageAt, Over}
 use Rattle.round_search.specs.Search.{Finished}
 
@@ -30,22 +32,15 @@ length-labels_in : (l : List ℕ) (n : ℕ) → length (labels_in l n) ≡ n
 unfolding labels_in
 length-labels_in l n = length-map-up_from (label_at l) 0 n
 
--- any stage but the first three is a refusal
-stage-refused : (k : ℕ) (q : Query) (earlier : List (List ℕ)) (l : List ℕ) (y : State) → k ≢ 0 → k ≢ 1 → k ≢ 2 → StageAt k q earlier l y → Over q earlier l y.n refused
-stage-refused zero q earlier l y a b c h = absurd (a refl)
-stage-refused (suc zero) q earlier l y a b c h = absurd (b refl)
-stage-refused (suc (suc zero)) q earlier l y a b c h = absurd (c refl)
-stage-refused (suc (suc (suc k))) q earlier l y a b c h = h
-
 -- at the end the labels stand
-pub finished-standing : (q : Query) (earlier : List (List ℕ)) (l l' : List ℕ) (y : State) → y.stage ≢ 0 → Finished q earlier l l' y → Standing q.net.arcs q.s l' y.n
+pub finished-standing : (q : Query) (earlier : List (List ℕ)) (l l' : List ℕ) (y : State) → y.stage ≢ GoesOn → Finished q earlier l l' y → Standing q.net.arcs q.s l' y.n
 finished-standing q earlier l l' y ne h = go y.stage ne h.stage
   where
-    go : (k : ℕ) → k ≢ 0 → StageAt k q earlier l' y → Standing q.net.arcs q.s l' y.n
-    go zero a w = absurd (a refl)
-    go (suc zero) a w = w.1.standing
-    go (suc (suc zero)) a w = w.standing
-    go (suc (suc (suc k))) a w = w.standing
+    go : (k : Stage) → k ≢ GoesOn → StageAt k q earlier l' y → Standing q.net.arcs q.s l' y.n
+    go GoesOn a w = absurd (a refl)
+    go Answered a w = w.1.standing
+    go Unanswered a w = w.standing
+    go NoRoom a w = w.standing
 
 -- what the call that was lent the slot leaves in the area
 pub slot-written : (w r : ℕ) (area p ys : List ℕ) → r * w + w ≤ length area → ys ≡ slot_of (length (mid_of (r * w) (r * w + w - r * w) area)) p
@@ -74,16 +69,16 @@ module _ (q : Query) (earlier : List (List ℕ)) (w r : ℕ) (area l l' : List �
         slot = k ∙ ap (area_after w r area) (sym o.ends);
       }
 
-  pub rounded-none : y.stage ≡ 2 → Rounded q earlier w r area area l l' (NoAnswer y.n)
+  pub rounded-none : y.stage ≡ Unanswered → Rounded q earlier w r area area l l' (NoAnswer y.n)
   unfolding shown area_after
   rounded-none e = rounded (unanswered y.n) (NoAnswer y.n) area (subst (λ k. StageAt k q earlier l' y) e h.stage) refl refl
 
-  pub rounded-refused : y.stage ≢ 0 → y.stage ≢ 2 → y.stage ≢ 1 → Rounded q earlier w r area area l l' Refused
+  pub rounded-refused : y.stage ≡ NoRoom → Rounded q earlier w r area area l l' Refused
   unfolding shown area_after
-  rounded-refused a c b = rounded refused Refused area (stage-refused y.stage q earlier l' y a b c h.stage) refl refl
+  rounded-refused e = rounded refused Refused area (subst (λ k. StageAt k q earlier l' y) e h.stage) refl refl
 
   -- an answer: the last label's chain
-  module _ (at : y.stage ≡ 1) where
+  module _ (at : y.stage ≡ Answered) where
     pub last-label : (y.n ≢ 0) × Over q earlier l' y.n (answered (chain_at l' (pred y.n)) y.n)
     last-label = subst (λ k. StageAt k q earlier l' y) at h.stage
 

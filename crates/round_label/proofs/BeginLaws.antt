@@ -9,7 +9,7 @@ use native.Mathlib.Omega.{arith}
 use lib.ListN.{length, take, replicate}
 use Rattle.lists.specs.Tests.{up_from}
 use Rattle.lists.proofs.IndexLaws.{take-replicate}
-use Rattle.net.specs.Net.{Net, arc}
+use Rattle.net.specs.Net.{Net}
 use Rattle.net.specs.Route.{end_of}
 use Rattle.net.specs.Round.{Query, refused}
 use Rattle.net.specs.Labels.{labels}
@@ -29,6 +29,7 @@ use Rattle.search_ask.proofs.CandidateLaws.{last_none}
 use Rattle.search_queue.specs.Only.{Only}
 use Rattle.search_cursor.specs.Queue.{Queued}
 use Rattle.search_clear.proofs.RowsLaws.{only_row}
+use Rattle.round_label.specs.declared.Stage.TheVariants.{GoesOn, NoRoom}
 use Rattle.round_label.specs.Stage.{guide, Going, Over, Keeps, Searched}
 use Rattle.round_label.proofs.StageLaws.{going-only, keeps-only}
 
@@ -54,7 +55,7 @@ module _ (q : Query) (earlier : List (List ℕ)) (v : Valid q) (few : length ear
         holds = sym (ends_held q earlier v (guide q) [] w.1);
       }
 
-  begin-going : q.s < 2 ^ 16 → label_bytes ≤ length l → 1 ≤ q.room → q.s ≢ q.t → Going q earlier opened (record { n = 1; last = record { label = 0; arc = no_number }; root = 0; stage = 0 })
+  begin-going : q.s < 2 ^ 16 → label_bytes ≤ length l → 1 ≤ q.room → q.s ≢ q.t → Going q earlier opened (record { n = 1; last = record { label = 0; arc = no_number }; root = 0; stage = GoesOn })
   unfolding end_of labels
   begin-going s bytes room apart =
       record {
@@ -76,17 +77,17 @@ module _ (q : Query) (earlier : List (List ℕ)) (v : Valid q) (few : length ear
       (ap (λ b. put_row b 0 row) (labelled-none q.net q.s earlier l₀) ∙ sym (labelled-first q.net q.s earlier l₀) ∙ ap (labelled q.net q.s earlier l₀) (sym (chains-first opened)))
       (only_row h row (omega (arith, length-overlaps_of q.net earlier [])))
 
-  pub begun-refused : q.room ≡ 0 → Searched q earlier l l (record { n = 0; last = record { label = 0; arc = no_number }; root = 0; stage = 3 })
+  pub begun-refused : q.room ≡ 0 → Searched q earlier l l (record { n = 0; last = record { label = 0; arc = no_number }; root = 0; stage = NoRoom })
   begun-refused e = record { long = refl; stage = begin-refused e; keeps = λ l₀ k. k }
 
   -- its cursor is set
   pub begun_first : (l' : List ℕ) → Only 20 20 1 opened l' → Queued q earlier [] l' 1 0 → q.s < 2 ^ 16 → label_bytes ≤ length l → 1 ≤ q.room → q.s ≢ q.t
-      → Searched q earlier l l' (record { n = 1; last = record { label = 0; arc = no_number }; root = 0; stage = 0 })
+      → Searched q earlier l l' (record { n = 1; last = record { label = 0; arc = no_number }; root = 0; stage = GoesOn })
   begun_first l' o qu s bytes room apart =
       record {
         long = o.long ∙ length-put_row l 0 (empty_row q.net q.s earlier);
         stage = (
-          going-only o q earlier (record { n = 1; last = record { label = 0; arc = no_number }; root = 0; stage = 0 }) (begin-going s bytes room apart),
+          going-only o q earlier (record { n = 1; last = record { label = 0; arc = no_number }; root = 0; stage = GoesOn }) (begin-going s bytes room apart),
           subst (λ z. Queued q earlier z l' 1 0) (sym (last_none l' (record { label = 0; arc = no_number }) refl)) qu,
         );
         keeps = λ l₀ h. keeps-only q earlier 1 o l₀ (begin-keeps l₀ h);

@@ -7,6 +7,7 @@ use Rattle.search_ask.specs.Ask.{width}
 use Rattle.search_lists.specs.Listed.{Listed}
 use Rattle.search_lists.specs.Run.{Runs}
 use Rattle.round_label.specs.declared.State.{State}
+use Rattle.round_label.specs.declared.Stage.TheVariants.{GoesOn}
 
 -- Slot r of w words is in the area, and blank.
 pub record Blank (w r : ℕ) (area : List ℕ) : Type 0 where
@@ -22,5 +23,5 @@ pub record ButSlot (w r : ℕ) (area area' : List ℕ) : Type 0 where
 -- While the search goes on its labels are listed, and have their runs; after r earlier answers nothing but slot r of the area is used for that.
 pub record Listing (ask : Ask) (table : List ℕ) (r : ℕ) (area area' labels : List ℕ) (x : State) : Type 0 where
   pub around : ButSlot (width ask) r area area'
-  pub listed : x.stage ≡ 0 → Listed ask r area' labels x.n
-  pub runs : x.stage ≡ 0 → Runs table labels x.n
+  pub listed : x.stage ≡ GoesOn → Listed ask r area' labels x.n
+  pub runs : x.stage ≡ GoesOn → Runs table labels x.n

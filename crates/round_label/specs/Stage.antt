@@ -1,5 +1,5 @@
 -- The stages of a search, by the labels in the bytes and the candidate last looked at.
-use Rattle.std.specs.Prelude.{◌≡◌, ◌≢◌, ℕ, zero, suc, pred, ◌+◌, ◌*◌, ◌<◌, ◌≤◌, length, take}
+use Rattle.std.specs.Prelude.{◌≡◌, ◌≢◌, ℕ, pred, ◌+◌, ◌*◌, ◌<◌, ◌≤◌, length, take}
 use mathlib.Core.List.{List, Memᴰ}
 use Rattle.net.specs.Net.{Arc}
 use Rattle.net.specs.Route.{end_of, length_of}
@@ -19,6 +19,7 @@ use Rattle.search_ask.specs.Earlier.{Earlier}
 use Rattle.search_queue.specs.Only.{Only}
 use Rattle.search_cursor.specs.Queue.{Queued}
 use Rattle.round_label.specs.declared.State.{State}
+use Rattle.round_label.specs.declared.Stage.TheVariants.{GoesOn, Answered, Unanswered, NoRoom}
 
 -- What a search asks: an accepted ask, the earlier answers in their slots with their lengths, no more of them than a label has
 -- overlaps, and no more room than labels may have.
@@ -51,12 +52,12 @@ pub record Over (q : Query) (earlier : List (List ℕ)) (labels : List ℕ) (n :
   pub chains : chains_in labels n ≡ take q.room (counted q earlier)
   pub holds : labels_in labels n ≡ held q earlier
 
--- Stage 0: it goes on, with the labels' own candidates in order. 1: an answer, the last label's chain. 2: none. 3: refused for room.
-abbrev pub StageAt : ℕ → Query → List (List ℕ) → List ℕ → State → Type 0
-StageAt zero q earlier labels x = Going q earlier labels x × Queued q earlier (last_in labels x.last) labels x.n x.root
-StageAt (suc zero) q earlier labels x = (x.n ≢ 0) × Over q earlier labels x.n (answered (chain_at labels (pred x.n)) x.n)
-StageAt (suc (suc zero)) q earlier labels x = Over q earlier labels x.n (unanswered x.n)
-StageAt (suc (suc (suc k))) q earlier labels x = Over q earlier labels x.n refused
+-- It goes on, with the labels' own candidates in order; or it is over, with an answer, the last label's chain, with none, or refused for room.
+abbrev pub StageAt : Rattle.round_label.specs.declared.Stage.Stage → Query → List (List ℕ) → List ℕ → State → Type 0
+StageAt GoesOn q earlier labels x = Going q earlier labels x × Queued q earlier (last_in labels x.last) labels x.n x.root
+StageAt Answered q earlier labels x = (x.n ≢ 0) × Over q earlier labels x.n (answered (chain_at labels (pred x.n)) x.n)
+StageAt Unanswered q earlier labels x = Over q earlier labels x.n (unanswered x.n)
+StageAt NoRoom q earlier labels x = Over q earlier labels x.n refused
 
 abbrev pub Stage : Query → List (List ℕ) → List ℕ → State → Type 0
 Stage q earlier labels x = StageAt x.stage q earlier labels x

@@ -18,6 +18,16 @@ ghost use Rattle.round_label.specs.Lists.{Blank, ButSlot, Listing};
 
 use search_ask::{Ask, Candidate};
 
+// Where a search is: it goes on, or it is over with an answer, the last label's chain, with none, or
+// refused for room.
+#[derive(Clone, Copy, Debug, PartialEq, Eq)]
+pub enum Stage {
+    GoesOn,
+    Answered,
+    Unanswered,
+    NoRoom,
+}
+
 // How many labels are taken up, the candidate last looked at, the label whose candidate is the
 // first of all, and the stage.
 #[derive(Clone, Copy)]
@@ -25,16 +35,8 @@ pub struct State {
     pub n: usize,
     pub last: Candidate,
     pub root: usize,
-    pub stage: u8,
+    pub stage: Stage,
 }
-
-pub const GOING: u8 = 0;
-
-pub const ANSWER: u8 = 1;
-
-pub const NO_ANSWER: u8 = 2;
-
-pub const REFUSED: u8 = 3;
 
 // The candidate, whose overlaps are `own`, becomes label n.
 pub fn take_up(table: &[u8], ask: Ask, labels: &mut [u8], n: usize, c: Candidate, own: &[u64])
@@ -127,7 +129,7 @@ pub fn begin(
             n: 0,
             last: none,
             root: 0,
-            stage: REFUSED,
+            stage: Stage::NoRoom,
         };
     }
     let s = ask.s;
@@ -142,6 +144,6 @@ pub fn begin(
         n: 1,
         last: none,
         root: 0,
-        stage: GOING,
+        stage: Stage::GoesOn,
     }
 }

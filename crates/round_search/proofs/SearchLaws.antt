@@ -2,7 +2,7 @@
 use mathlib.Core.Path.{◌≡◌, refl, sym, ap, subst, ◌∙◌, ap₂}
 use mathlib.Core.Logic.{◌≢◌}
 use mathlib.Core.List.{List, ◌++◌}
-use Prim.Native.Nat.{ℕ, zero, suc, pred, ◌+◌, ◌-◌, ◌*◌}
+use Prim.Native.Nat.{ℕ, pred, ◌+◌, ◌-◌, ◌*◌}
 use native.Mathlib.Omega.{arith}
 use lib.ListN.{take, drop, replicate, take-append-drop}
 use lib.Seq.{drop-drop}
@@ -19,30 +19,32 @@ use Rattle.search_queue.proofs.OnlyLaws.{only_same, chain-only, chains-only}
 use Rattle.search_clear.specs.Clear.{clear_work}
 use Rattle.search_clear.proofs.ClearLaws.{clear-only, clear-same}
 use Rattle.round_label.specs.declared.State.{State}
+use Rattle.round_label.specs.declared.Stage.{Stage}
+use Rattle.round_label.specs.declared.Stage.TheVariants.{GoesOn, Answered, Unanswered, NoRoom}
 use Rattle.round_label.specs.Stage.{Over, StageAt, Searched}
 use Rattle.round_label.specs.Lists.{Blank, ButSlot}
 use Rattle.round_label.proofs.StageLaws.{over-only}
 use Rattle.round_search.specs.Search.{Finished}
 
 -- in every stage the labels stand
-stage-standing : (k : ℕ) (q : Query) (earlier : List (List ℕ)) (l : List ℕ) (y : State) → StageAt k q earlier l y → Standing q.net.arcs q.s l y.n
-stage-standing zero q earlier l y h = h.0.standing
-stage-standing (suc zero) q earlier l y h = h.1.standing
-stage-standing (suc (suc zero)) q earlier l y h = h.standing
-stage-standing (suc (suc (suc k))) q earlier l y h = h.standing
+stage-standing : (k : Stage) (q : Query) (earlier : List (List ℕ)) (l : List ℕ) (y : State) → StageAt k q earlier l y → Standing q.net.arcs q.s l y.n
+stage-standing GoesOn q earlier l y h = h.0.standing
+stage-standing Answered q earlier l y h = h.1.standing
+stage-standing Unanswered q earlier l y h = h.standing
+stage-standing NoRoom q earlier l y h = h.standing
 
 pub searched-standing : (q : Query) (earlier : List (List ℕ)) (l l' : List ℕ) (y : State) → Searched q earlier l l' y → Standing q.net.arcs q.s l' y.n
 searched-standing q earlier l l' y h = stage-standing y.stage q earlier l' y h.stage
 
 -- a stage at which the search is over stays where only working bytes change
-over-stage : (k : ℕ) (q : Query) (earlier : List (List ℕ)) {l m : List ℕ} (y : State) → k ≢ 0 → Only 20 20 y.n l m → StageAt k q earlier l y → StageAt k q earlier m y
-over-stage zero q earlier y ne o h = absurd (ne refl)
-over-stage (suc zero) q earlier {l} {m} y ne o h =
+over-stage : (k : Stage) (q : Query) (earlier : List (List ℕ)) {l m : List ℕ} (y : State) → k ≢ GoesOn → Only 20 20 y.n l m → StageAt k q earlier l y → StageAt k q earlier m y
+over-stage GoesOn q earlier y ne o h = absurd (ne refl)
+over-stage Answered q earlier {l} {m} y ne o h =
     (h.0, subst (λ p. Over q earlier m y.n (answered p y.n)) (sym (chain-only o (pred y.n))) (over-only o q earlier y.n (answered (chain_at l (pred y.n)) y.n) h.1))
-over-stage (suc (suc zero)) q earlier y ne o h = over-only o q earlier y.n (unanswered y.n) h
-over-stage (suc (suc (suc k))) q earlier y ne o h = over-only o q earlier y.n refused h
+over-stage Unanswered q earlier y ne o h = over-only o q earlier y.n (unanswered y.n) h
+over-stage NoRoom q earlier y ne o h = over-only o q earlier y.n refused h
 
-pub finished : (q : Query) (earlier : List (List ℕ)) (l l' : List ℕ) (y : State) → y.stage ≢ 0 → Searched q earlier l l' y → (r : List ℕ) → r ≡ clear_work y.n l' → Finished q earlier l r y
+pub finished : (q : Query) (earlier : List (List ℕ)) (l l' : List ℕ) (y : State) → y.stage ≢ GoesOn → Searched q earlier l l' y → (r : List ℕ) → r ≡ clear_work y.n l' → Finished q earlier l r y
 unfolding chains_in up_from
 finished q earlier l l' y ne h r e =
     let o : Only 20 20 y.n l' r = subst (Only 20 20 y.n l') (sym e) (clear-only y.n l') in

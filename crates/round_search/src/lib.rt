@@ -5,6 +5,7 @@ ghost use Rattle.std.specs.Prelude.{◌≡◌, ◌≢◌, length};
 ghost use Rattle.search_ask.specs.Ask.{width, query_for};
 ghost use Rattle.search_ask.specs.Earlier.{earlier_of};
 ghost use Rattle.round_label.specs.Stage.{Ready};
+ghost use Rattle.round_label.specs.declared.Stage.TheVariants.{GoesOn};
 ghost use Rattle.round_label.specs.Lists.{Blank};
 ghost use Rattle.round_search.specs.Search.{Finished};
 
@@ -23,7 +24,7 @@ pub fn search(
 ) -> State
     requires { (Ready ask table.now area.old lens.now labels.old)
         × (Blank (width ask) (length lens.now) area.old) }
-    ensures { (result.stage ≢ 0)
+    ensures { (result.stage ≢ GoesOn)
         × (Finished (query_for ask table.now closed.now labels.old)
         (earlier_of ask area.old lens.now)
         labels.old labels.new result)
@@ -35,6 +36,6 @@ pub fn search(
     let w = ask.nodes as usize - 1;
     let from = lens.len() * w;
     let to = from + w;
-    words::fill::fill32_part(area, from, to, labels::field::NONE);
+    words::fill::fill_part(area, from, to, labels::field::NONE);
     x
 }

@@ -11,6 +11,7 @@ use Rattle.search_cursor.specs.Queue.{Queued}
 use Rattle.round_label.specs.declared.State.{State}
 use Rattle.round_label.specs.Stage.{Going, StageAt, Stage, Keeps, Searched}
 use Rattle.round_label.proofs.StageLaws.{query-same}
+use Rattle.round_label.specs.declared.Stage.TheVariants.{GoesOn}
 use Rattle.round_turn.specs.Turn.{left_in, Turned}
 
 -- the bytes l₀ with state x₀ have become l with state x
@@ -25,7 +26,7 @@ module _ (ask : Ask) (t closed : List ℕ) (earlier : List (List ℕ)) where
     since-start l h = record { long = refl; stage = subst (λ q. Stage q earlier l₀ x₀) (query-same ask t closed l l₀ (sym h.long)) h.stage; keeps = λ b e. e }
 
     module _ (l : List ℕ) (x : State) (h : Since (query_for ask t closed l₀) earlier l₀ x₀ l x) where
-      pub since-going : x.stage ≡ 0 → Going (query_for ask t closed l) earlier l x × Queued (query_for ask t closed l) earlier (last_in l x.last) l x.n x.root
+      pub since-going : x.stage ≡ GoesOn → Going (query_for ask t closed l) earlier l x × Queued (query_for ask t closed l) earlier (last_in l x.last) l x.n x.root
       since-going e =
           subst (λ q. Going q earlier l x × Queued q earlier (last_in l x.last) l x.n x.root) (query-same ask t closed l₀ l (sym h.long)) (subst (λ k. StageAt k (query_for ask t closed l₀) earlier l x) e h.stage)
 

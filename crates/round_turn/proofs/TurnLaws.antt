@@ -47,7 +47,8 @@ use Rattle.search_clear.proofs.RowsLaws.{only_row}
 use Rattle.round_label.specs.declared.State.{State}
 use Rattle.round_label.specs.Stage.{guide, Going, Over, Keeps, row_for}
 use Rattle.round_label.proofs.StageLaws.{chain-of-only, last-only, going-only, over-only, keeps-only}
-use Rattle.round_turn.specs.Turn.{left_in, Turned}
+use Rattle.round_label.specs.declared.Stage.TheVariants.{GoesOn, Answered, Unanswered, NoRoom}
+use Rattle.round_turn.specs.Turn.{to_end, left_in, Turned}
 
 -- what a label more asks: room in the bytes, and limits that its fields keep
 pub record Roomy (q : Query) (l : List ℕ) (n : ℕ) : Type 0 where
@@ -90,7 +91,7 @@ module _ (q : Query) (earlier : List (List ℕ)) (v : Valid q) (l : List ℕ) (x
   module _ (c : Candidate) (points : Points q.net.arcs x.n c) (real : c.arc ≢ no_number) (root : ℕ)
       (first : Foremost q earlier (guide q) (chains_in l x.n) (last_in l x.last) (chain_of l c)) where
     -- it is dropped: the labels' chains are the live ones not after it, too
-    going : chains_in l x.n ≡ up_to (guide q) q earlier (chain_of l c) → Going q earlier l (record { n = x.n; last = c; root = root; stage = 0 })
+    going : chains_in l x.n ≡ up_to (guide q) q earlier (chain_of l c) → Going q earlier l (record { n = x.n; last = c; root = root; stage = GoesOn })
     going e =
         record {
           standing = g.standing;
@@ -103,10 +104,10 @@ module _ (q : Query) (earlier : List (List ℕ)) (v : Valid q) (l : List ℕ) (x
           short = g.short;
         }
 
-    turn-dropped : passes q earlier (chains_in l x.n) (chain_of l c) ≡ false → Going q earlier l (record { n = x.n; last = c; root = root; stage = 0 })
+    turn-dropped : passes q earlier (chains_in l x.n) (chain_of l c) ≡ false → Going q earlier l (record { n = x.n; last = c; root = root; stage = GoesOn })
     turn-dropped e = going (step-dropped q earlier v (guide q) (by_length q.net q.s) (chains_in l x.n) (last_in l x.last) g.taken (chain_of l c) first e)
 
-    turn-dropped-less : left_in q l (record { n = x.n; last = c; root = root; stage = 0 }) < left_in q l (record { n = x.n; last = x.last; root = x.root; stage = 0 })
+    turn-dropped-less : left_in q l (record { n = x.n; last = c; root = root; stage = GoesOn }) < left_in q l (record { n = x.n; last = x.last; root = x.root; stage = GoesOn })
     turn-dropped-less =
         let k = first.is-candidate in
         omega (arith, left-dropped (guide q) q.net q.s q.room (chains_in l x.n) (last_in l x.last) (chain_of l c) k, ap (left (guide q) q.net q.s q.room (chains_in l x.n)) (last_some l c real))
@@ -188,7 +189,7 @@ module _ (q : Query) (earlier : List (List ℕ)) (v : Valid q) (l : List ℕ) (x
         last_up = last_some made c real ∙ ap (λ p. p ++ (c.arc ∷ [])) (chain-other row g.standing.down c.label label-below)
 
         turn-taken : end_of q.net.arcs q.s (chain_of l c) ≢ q.t
-            → Going q earlier made (record { n = x.n + 1; last = c; root = root; stage = 0 })
+            → Going q earlier made (record { n = x.n + 1; last = c; root = root; stage = GoesOn })
         turn-taken far =
             record {
               standing = standing-up;
@@ -249,15 +250,15 @@ module _ (q : Query) (earlier : List (List ℕ)) (v : Valid q) (l : List ℕ) (x
 
 -- ---- a turn, as the code has it: the root's candidate is looked at
 
-module _ (q : Query) (earlier : List (List ℕ)) (v : Valid q) (l : List ℕ) (x : State) (g : Going q earlier l x) (at : x.stage ≡ 0) (len-most : (a : ℕ) → (arc q.net.arcs a).len ≤ most_length)
+module _ (q : Query) (earlier : List (List ℕ)) (v : Valid q) (l : List ℕ) (x : State) (g : Going q earlier l x) (at : x.stage ≡ GoesOn) (len-most : (a : ℕ) → (arc q.net.arcs a).len ≤ most_length)
     (qu : Queued q earlier (last_in l x.last) l x.n x.root) where
-  pub turned_none : cursor_at l x.root ≡ no_number → Turned q earlier l x l (record { n = x.n; last = x.last; root = x.root; stage = 2 })
+  pub turned_none : cursor_at l x.root ≡ no_number → Turned q earlier l x l (record { n = x.n; last = x.last; root = x.root; stage = Unanswered })
   turned_none e =
       record {
         long = refl;
         stage = turn-none q earlier v l x g (root-last q earlier (last_in l x.last) l x.n x.root g.standing len-most qu e);
         keeps = λ l₀ k. k;
-        less = omega arith;
+        less = omega (arith, ap to_end at);
       }
 
   module _ (a : ℕ) (is : a ≡ cursor_at l x.root) (real : a ≢ no_number) where
@@ -282,26 +283,26 @@ module _ (q : Query) (earlier : List (List ℕ)) (v : Valid q) (l : List ℕ) (x
 
     -- it is dropped, and the root's cursor moves on
     pub turned-dropped : passes q earlier (chains_in l x.n) (chain_of l c) ≡ false → (l' : List ℕ) (k : ℕ) → Only 20 20 x.n l l' → Queued q earlier (chain_of l c) l' x.n k
-        → Turned q earlier l x l' (record { n = x.n; last = c; root = k; stage = 0 })
+        → Turned q earlier l x l' (record { n = x.n; last = c; root = k; stage = GoesOn })
     turned-dropped e l' k o qu' =
         record {
           long = o.long;
           stage = (
-            going-only o q earlier (record { n = x.n; last = c; root = k; stage = 0 }) (turn-dropped q earlier v l x g c points real k first e),
+            going-only o q earlier (record { n = x.n; last = c; root = k; stage = GoesOn }) (turn-dropped q earlier v l x g c points real k first e),
             subst (λ z. Queued q earlier z l' x.n k) (sym (last-only o c ∙ last_some l c real)) qu',
           );
           keeps = keeps-only q earlier x.n o;
-          less = rw (chains-only o x.n, last-only o c) (omega (arith, turn-dropped-less q earlier v l x g c points real k first));
+          less = rw (chains-only o x.n, last-only o c) (omega (arith, ap to_end at, turn-dropped-less q earlier v l x g c points real k first));
         }
 
     module _ (passed : passes q earlier (chains_in l x.n) (chain_of l c) ≡ true) where
-      pub turned-refused : q.room ≤ x.n → (m : List ℕ) → Only 20 20 x.n l m → Turned q earlier l x m (record { n = x.n; last = x.last; root = x.root; stage = 3 })
+      pub turned-refused : q.room ≤ x.n → (m : List ℕ) → Only 20 20 x.n l m → Turned q earlier l x m (record { n = x.n; last = x.last; root = x.root; stage = NoRoom })
       turned-refused h m o =
           record {
             long = o.long;
             stage = over-only o q earlier x.n refused (turn-refused q earlier v l x g c points real x.root first passed h);
             keeps = keeps-only q earlier x.n o;
-            less = rw (chains-only o x.n, last-only o x.last) (omega arith);
+            less = rw (chains-only o x.n, last-only o x.last) (omega (arith, ap to_end at));
           }
 
       module _ (roomy : Roomy q l x.n) where
@@ -346,19 +347,19 @@ module _ (q : Query) (earlier : List (List ℕ)) (v : Valid q) (l : List ℕ) (x
           less-between = rw (chains-only o x.n, last-only o x.last)
 
           pub turned-answer : end_of q.net.arcs q.s (chain_of l c) ≡ q.t → (l' : List ℕ) → l' ≡ put_row m x.n (row_in q earlier m c)
-              → Turned q earlier l x l' (record { n = x.n + 1; last = c; root = x.root; stage = 1 })
+              → Turned q earlier l x l' (record { n = x.n + 1; last = c; root = x.root; stage = Answered })
           turned-answer e l' put =
               let e' = subst (λ z. end_of q.net.arcs q.s z ≡ q.t) (sym (chain-of-only o c)) e in
-              subst (λ b. Turned q earlier l x b (record { n = x.n + 1; last = c; root = x.root; stage = 1 })) (sym put)
+              subst (λ b. Turned q earlier l x b (record { n = x.n + 1; last = c; root = x.root; stage = Answered })) (sym put)
               (record {
                 long = length-put_row m x.n (row_in q earlier m c) ∙ o.long;
                 stage = (λ z. omega arith, turn-answer q earlier v m x going-between c points real x.root first-between passed-between roomy-between arc-below e');
                 keeps = λ l₀ h. turn-keeps q earlier v m x going-between c points real x.root first-between passed-between roomy-between arc-below l₀ (keeps-only q earlier x.n o l₀ h);
-                less = omega (arith, turn-taken-less q earlier v m x going-between c points real x.root first-between passed-between roomy-between arc-below, less-between);
+                less = omega (arith, ap to_end at, turn-taken-less q earlier v m x going-between c points real x.root first-between passed-between roomy-between arc-below, less-between);
               })
 
           pub turned_taken : end_of q.net.arcs q.s (chain_of l c) ≢ q.t → (l' : List ℕ) (k : ℕ) → Only 20 20 (x.n + 1) (put_row m x.n (row_in q earlier m c)) l'
-              → Queued q earlier (chain_of l c) l' (x.n + 1) k → Turned q earlier l x l' (record { n = x.n + 1; last = c; root = k; stage = 0 })
+              → Queued q earlier (chain_of l c) l' (x.n + 1) k → Turned q earlier l x l' (record { n = x.n + 1; last = c; root = k; stage = GoesOn })
           turned_taken far l' k f qu' =
               let far' = subst (λ z. end_of q.net.arcs q.s z ≢ q.t) (sym (chain-of-only o c)) far in
               let last-is : last_in l' c ≡ chain_of l c =
@@ -367,11 +368,11 @@ module _ (q : Query) (earlier : List (List ℕ)) (v : Valid q) (l : List ℕ) (x
               record {
                 long = f.long ∙ length-put_row m x.n (row_in q earlier m c) ∙ o.long;
                 stage = (
-                  going-only f q earlier (record { n = x.n + 1; last = c; root = k; stage = 0 }) (turn-taken q earlier v m x going-between c points real k first-between passed-between roomy-between arc-below far'),
+                  going-only f q earlier (record { n = x.n + 1; last = c; root = k; stage = GoesOn }) (turn-taken q earlier v m x going-between c points real k first-between passed-between roomy-between arc-below far'),
                   subst (λ z. Queued q earlier z l' (x.n + 1) k) (sym last-is) qu',
                 );
                 keeps = λ l₀ h. keeps-only q earlier (x.n + 1) f l₀
                     (turn-keeps q earlier v m x going-between c points real k first-between passed-between roomy-between arc-below l₀ (keeps-only q earlier x.n o l₀ h));
                 less = rw (chains-only f (x.n + 1), last-only f c)
-                    (omega (arith, less', less-between));
+                    (omega (arith, ap to_end at, less', less-between));
               }

@@ -13,10 +13,11 @@ ghost use Rattle.search_lists.specs.Run.{Runs};
 ghost use Rattle.search_batch.specs.Batch.{Ahead};
 ghost use Rattle.search_cursor.specs.Queue.{Queued};
 ghost use Rattle.round_label.specs.Stage.{Ready, Going, Searched};
+ghost use Rattle.round_label.specs.declared.Stage.TheVariants.{GoesOn};
 ghost use Rattle.round_label.specs.Lists.{Blank, ButSlot, Listing};
 ghost use Rattle.round_turn.specs.Turn.{Turned};
 
-use round_label::State;
+use round_label::{Stage, State};
 use search_advance::Place;
 use search_ask::{Ask, Candidate};
 use search_trial::Trial;
@@ -34,7 +35,7 @@ fn turn(
     ahead: &mut [u64],
     x: State,
 ) -> State
-    requires { (Ready ask table.now area.old lens.now labels.old) × (x.stage ≡ 0)
+    requires { (Ready ask table.now area.old lens.now labels.old) × (x.stage ≡ GoesOn)
         × (Going (query_for ask table.now closed.now labels.old)
         (earlier_of ask area.old lens.now) labels.old x)
         × (Queued (query_for ask table.now closed.now labels.old)
@@ -59,25 +60,22 @@ fn turn(
     let arc = search_queue::working::cursor(labels, root) as usize;
     if arc == search_ask::NO_ARC {
         return State {
-            n: n,
-            last: last,
-            root: root,
-            stage: round_label::NO_ANSWER,
+            n,
+            last,
+            root,
+            stage: Stage::Unanswered,
         };
     }
-    let c = Candidate {
-        label: root,
-        arc: arc,
-    };
+    let c = Candidate { label: root, arc };
     let r = lens.len();
-    let trial = Trial { r: r, n: n, c: c };
+    let trial = Trial { r, n, c };
     let mut own = [0u64; labels::field::MOST_EARLIER];
     search_trial::overlap::of_candidate(table, ask, area, marks, labels, trial, &mut own);
     let end = table::arc::to_of(table, arc);
     let pass = search_trial::passes(ask, area, lens, labels, n, end, &own[0..r]);
     let room = labels.len() / labels::field::LABEL;
     let place = Place {
-        n: n,
+        n,
         label: root,
         from: arc,
     };
@@ -86,18 +84,18 @@ fn turn(
     );
     if !pass {
         return State {
-            n: n,
+            n,
             last: c,
             root: k,
-            stage: round_label::GOING,
+            stage: Stage::GoesOn,
         };
     }
     if room <= n {
         return State {
-            n: n,
-            last: last,
-            root: root,
-            stage: round_label::REFUSED,
+            n,
+            last,
+            root,
+            stage: Stage::NoRoom,
         };
     }
     let goal = ask.goal;
@@ -106,8 +104,8 @@ fn turn(
         return State {
             n: n + 1,
             last: c,
-            root: root,
-            stage: round_label::ANSWER,
+            root,
+            stage: Stage::Answered,
         };
     }
     let new = round_label::enter(
@@ -128,7 +126,7 @@ fn turn(
         n: n + 1,
         last: c,
         root: new,
-        stage: round_label::GOING,
+        stage: Stage::GoesOn,
     }
 }
 
@@ -143,7 +141,7 @@ pub fn turns(
 ) -> State
     requires { (Ready ask table.now area.old lens.now labels.old)
         × (Blank (width ask) (length lens.now) area.old) }
-    ensures { (result.stage ≢ 0)
+    ensures { (result.stage ≢ GoesOn)
         × (Searched (query_for ask table.now closed.now labels.old)
         (earlier_of ask area.old lens.now)
         labels.old labels.new result)
@@ -154,7 +152,7 @@ pub fn turns(
     search_driven::marks::mark_earlier(table, ask, area, lens.len(), &mut marks);
     let mut ahead = [0u64; search_batch::WORDS];
     let mut x = round_label::begin(table, closed, ask, area, lens, &marks, labels, &mut ahead);
-    while x.stage == round_label::GOING {
+    while let Stage::GoesOn = x.stage {
         x = turn(
             table, closed, ask, area, lens, &marks, labels, &mut ahead, x,
         );

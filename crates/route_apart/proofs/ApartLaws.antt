@@ -23,7 +23,7 @@ use Rattle.table.proofs.NetLaws.{len-most}
 use Rattle.labels.specs.Field.{no_number}
 use Rattle.search_ask.specs.Earlier.{route_in}
 use Rattle.route_list.specs.Listed.{Words}
-use Rattle.variety.specs.declared.Fraction.{Fraction}
+use Rattle.products.specs.declared.Fraction.{Fraction}
 use Rattle.variety.specs.Variety.{shared, apart}
 use Rattle.variety.proofs.Shared.{shared-both}
 use Rattle.variety.proofs.Fractions.{apart-is}
@@ -58,7 +58,7 @@ route-most t nodes words fine few =
 -- ---- the fraction made
 
 pub apart-made : (t room words : List ℕ) (size n k : ℕ) → n ≡ length_of (arcs_of t) (route_in words) → k ≡ marked_of t room words
-    → ◌≡◌ {A = Fraction} (record { top = n + size - 2 * k; bottom = n + size - k }) (apart_by t room words size)
+    → ◌≡◌ {A = Fraction} (record { over = n + size - 2 * k; under = n + size - k }) (apart_by t room words size)
 apart-made t room words size n k e f = rw (e, f)
 
 -- ---- the arcs of a slot

@@ -6,7 +6,7 @@ use Rattle.net.specs.Route.{length_of}
 use Rattle.table.specs.Table.{records, from_at, len_at, arcs_of}
 use Rattle.working_room.specs.Field.{word_at, put_word}
 use Rattle.search_ask.specs.Earlier.{route_in}
-use Rattle.variety.specs.declared.Fraction.{Fraction}
+use Rattle.products.specs.declared.Fraction.{Fraction}
 
 -- Offset 20 of a node's record has the number of the marked arc that leaves it, and 1; 0 where none does.
 abbrev pub mark_field : ℕ
@@ -44,4 +44,4 @@ put_marks t on (a ∷ p) room = put_marks t on p (put_word mark_field room (from
 -- The dissimilarity of a slot's route and the marked one, of this length.
 abbrev pub apart_by : List ℕ → List ℕ → List ℕ → ℕ → Fraction
 apart_by t room words size =
-    record { top = length_of (arcs_of t) (route_in words) + size - 2 * marked_of t room words; bottom = length_of (arcs_of t) (route_in words) + size - marked_of t room words }
+    record { over = length_of (arcs_of t) (route_in words) + size - 2 * marked_of t room words; under = length_of (arcs_of t) (route_in words) + size - marked_of t room words }

@@ -12,7 +12,7 @@ ghost use Rattle.net.specs.Route.{length_of};
 ghost use Rattle.table.specs.Table.{arcs_of};
 ghost use Rattle.route_apart.specs.Marks.{part_of, marked_of, put_marks, apart_by};
 
-use variety::Fraction;
+use products::Fraction;
 
 // Where a node's mark stands in its record: the number of the marked arc that leaves it, and 1.
 pub const MARK: usize = 20;
@@ -25,9 +25,10 @@ fn part(table: &[u8], nodes: u32, room: &[u8], a: usize) -> u64
 {
     let v = table::arc::from_of(table, a) as usize;
     if working_room::word(room, MARK, v) as usize == a + 1 {
-        return table::arc::length_of(table, a) as u64;
+        table::arc::length_of(table, a) as u64
+    } else {
+        0
     }
-    0
 }
 
 // The length of what the route in a slot shares with the marked one.
@@ -37,14 +38,11 @@ pub fn shared(table: &[u8], nodes: u32, slot: &[u32], room: &[u8]) -> u64
     ensures { result ≡ marked_of table.now room.now slot.now }
 {
     let mut total: u64 = 0;
-    let mut j = 0;
-    while j < slot.len() {
-        let x = slot[j];
+    for &x in slot {
         if x == labels::field::NONE {
             return total;
         }
         total += part(table, nodes, room, x as usize);
-        j += 1;
     }
     total
 }
@@ -54,10 +52,7 @@ fn mark_of(a: u32, on: bool) -> u32
     requires { a < 4294967295 }
     ensures { result ≡ cond on (a + 1) 0 }
 {
-    if on {
-        return a + 1;
-    }
-    0
+    if on { a + 1 } else { 0 }
 }
 
 // Marks the arcs of the route in a slot, or takes their marks away.
@@ -67,15 +62,12 @@ pub fn put_marks(table: &[u8], nodes: u32, slot: &[u32], room: &mut [u8], on: bo
     ensures { room.new ≡ put_marks table.now on
         (route_in slot.now) room.old }
 {
-    let mut j = 0;
-    while j < slot.len() {
-        let x = slot[j];
+    for &x in slot {
         if x == labels::field::NONE {
             return;
         }
         let v = table::arc::from_of(table, x as usize) as usize;
         working_room::put_word(room, MARK, v, mark_of(x, on));
-        j += 1;
     }
 }
 
@@ -90,7 +82,7 @@ pub fn apart(table: &[u8], nodes: u32, slot: &[u32], room: &[u8], size: u64) -> 
     let both = route_list::length(table, nodes, slot) + size;
     let common = shared(table, nodes, slot, room);
     Fraction {
-        top: both - 2 * common,
-        bottom: both - common,
+        over: both - 2 * common,
+        under: both - common,
     }
 }

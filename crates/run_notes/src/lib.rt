@@ -9,26 +9,105 @@ ghost use Rattle.second.specs.Second.{wrong_second};
 ghost use Rattle.second.specs.Lookup.{coming_start};
 ghost use Rattle.working_room.specs.Field.{Within};
 ghost use Rattle.node_queue.specs.Queue.{Roomy};
-ghost use Rattle.run_notes.specs.Noted.{LeavingNoted, ComingNoted};
+ghost use Rattle.table.specs.Table.{records};
+ghost use Rattle.run_notes.specs.Noted.{LeavingNoted, ComingNoted, Noted, start_by};
 
 pub const LEAVING: usize = 56;
 
 pub const COMING: usize = 60;
 
-// Where the run of v ends, of the arcs that leave it, which starts at a.
-fn leaving_end(table: &[u8], nodes: u32, v: u32, a: usize) -> usize
-    requires { (table_fault nodes table.now ≡ good) × (a ≡ run_start table.now v) }
-    ensures { result ≡ run_start table.now (v + 1) }
+// A table by whose nodes its records stand in order, and where in a node's record of the room it is
+// noted where its own records start.
+pub trait Order {
+    ghost use Rattle.std.specs.Prelude.{◌≡◌, true, List, ℕ, ◌+◌, ◌<◌, leb};
+    ghost use Rattle.table.specs.Table.{records};
+    ghost use Rattle.working_room.specs.Field.{room_bytes};
+
+    ghost node_at: { List ℕ → ℕ → ℕ };
+
+    ghost NOTE: { ℕ };
+
+    const NOTE: usize;
+
+    // The node by which record i stands.
+    fn node_of(table: &[u8], i: usize) -> u32
+        requires { i < records table.now }
+        ensures { result ≡ Self.node_at table.now i };
+
+    ghost behind: { leb 56 NOTE ≡ true };
+
+    ghost inside: { leb (NOTE + 4) room_bytes ≡ true };
+}
+
+// By start node, as a good table's.
+pub struct ByStart;
+
+// By end node, as a right second table's.
+pub struct ByEnd;
+
+impl Order for ByStart {
+    ghost use Rattle.std.specs.Prelude.{refl};
+    ghost use Rattle.table.specs.Table.{from_at};
+
+    ghost node_at = { from_at };
+
+    ghost NOTE = { 56 };
+
+    ghost behind = { refl };
+
+    ghost inside = { refl };
+
+    const NOTE: usize = LEAVING;
+
+    fn node_of(table: &[u8], i: usize) -> u32 {
+        table::arc::from_of(table, i)
+    }
+}
+
+impl Order for ByEnd {
+    ghost use Rattle.std.specs.Prelude.{refl};
+    ghost use Rattle.table.specs.Table.{to_at};
+
+    ghost node_at = { to_at };
+
+    ghost NOTE = { 60 };
+
+    ghost behind = { refl };
+
+    ghost inside = { refl };
+
+    const NOTE: usize = COMING;
+
+    fn node_of(table: &[u8], i: usize) -> u32 {
+        table::arc::to_of(table, i)
+    }
+}
+
+// Where the records of node v end, which start at `first`.
+fn end_by<O: Order>(table: &[u8], v: u32, first: usize) -> usize
+    requires { first ≡ start_by O.node_at table.now v }
+    ensures { result ≡ start_by O.node_at table.now (v + 1) }
 {
     let end = table.len() / table::arc::RECORD;
-    let mut i = a;
-    while i < end {
-        if v < table::arc::from_of(table, i) {
+    for i in first..end {
+        if v < O::node_of(table, i) {
             return i;
         }
-        i += 1;
     }
     end
+}
+
+// The starts of the records of each node.
+fn note_by<O: Order>(table: &[u8], nodes: u32, room: &mut [u8])
+    requires { (records table.now < 4294967296) × (Roomy nodes room.old) }
+    ensures { (Within O.NOTE 4 room.old room.new)
+        × (Noted O.NOTE (start_by O.node_at table.now) nodes room.new) }
+{
+    let mut first = 0;
+    for v in 0..nodes {
+        working_room::put_word(room, O::NOTE, v as usize, first as u32);
+        first = end_by::<O>(table, v, first);
+    }
 }
 
 // The starts of the arcs that leave each node.
@@ -37,31 +116,7 @@ pub fn leaving(table: &[u8], nodes: u32, room: &mut [u8])
     ensures { (Within 56 4 room.old room.new)
         × (LeavingNoted nodes table.now room.new) }
 {
-    let mut a = 0;
-    let mut v = 0;
-    while v < nodes {
-        working_room::put_word(room, LEAVING, v as usize, a as u32);
-        a = leaving_end(table, nodes, v, a);
-        v += 1;
-    }
-}
-
-// Where the run of v ends, of the records that come to it, which starts at b.
-fn coming_end(table: &[u8], second: &[u8], nodes: u32, v: u32, b: usize) -> usize
-    requires { (table_fault nodes table.now ≡ good)
-        × (wrong_second nodes table.now second.now ≡ false)
-        × (b ≡ coming_start second.now v) }
-    ensures { result ≡ coming_start second.now (v + 1) }
-{
-    let end = second.len() / table::arc::RECORD;
-    let mut i = b;
-    while i < end {
-        if v < table::arc::to_of(second, i) {
-            return i;
-        }
-        i += 1;
-    }
-    end
+    note_by::<ByStart>(table, nodes, room);
 }
 
 // The starts of the records of a right second table that come to each node.
@@ -71,13 +126,7 @@ fn coming(table: &[u8], second: &[u8], nodes: u32, room: &mut [u8])
     ensures { (Within 60 4 room.old room.new)
         × (ComingNoted nodes second.now room.new) }
 {
-    let mut b = 0;
-    let mut v = 0;
-    while v < nodes {
-        working_room::put_word(room, COMING, v as usize, b as u32);
-        b = coming_end(table, second, nodes, v, b);
-        v += 1;
-    }
+    note_by::<ByEnd>(second, nodes, room);
 }
 
 // The starts in both tables.

@@ -3,7 +3,7 @@
 // it was found before.
 #![tactic(auto)]
 
-ghost use Rattle.std.specs.Prelude.{◌≡◌, false, ◌⊎◌, ◌≤◌, ◌<◌, length};
+ghost use Rattle.std.specs.Prelude.{◌≡◌, ◌⊎◌, ◌≤◌, ◌<◌, length, IsTrue};
 ghost use Rattle.table.specs.Table.{records, from_at};
 ghost use Rattle.table.specs.Fault.{table_fault, good};
 ghost use Rattle.table.specs.Run.{run_start};
@@ -30,16 +30,12 @@ fn low(table: &[u8], nodes: u32, v: u32, g: usize) -> usize
     requires { table_fault nodes table.now ≡ good }
     ensures { result ≤ run_start table.now v }
 {
-    if g < REACH {
-        return 0;
+    let end = table.len() / table::arc::RECORD;
+    if REACH <= g && g - REACH < end && table::arc::from_of(table, g - REACH) < v {
+        g - REACH
+    } else {
+        0
     }
-    if table.len() / table::arc::RECORD <= g - REACH {
-        return 0;
-    }
-    if table::arc::from_of(table, g - REACH) < v {
-        return g - REACH;
-    }
-    0
 }
 
 // The record that lies `REACH` after g, where it starts at v or above, or the end.
@@ -47,16 +43,11 @@ fn high(table: &[u8], v: u32, g: usize) -> usize
     ensures { (run_start table.now v ≤ result) × (result ≤ records table.now) }
 {
     let end = table.len() / table::arc::RECORD;
-    if end <= REACH {
-        return end;
+    if REACH < end && g < end - REACH && v <= table::arc::from_of(table, g + REACH) {
+        g + REACH
+    } else {
+        end
     }
-    if end - REACH <= g {
-        return end;
-    }
-    if table::arc::from_of(table, g + REACH) < v {
-        return end;
-    }
-    g + REACH
 }
 
 // How many of n records to leave behind: all where the last, i, starts below v, or none.
@@ -66,9 +57,10 @@ fn behind(table: &[u8], i: usize, v: u32, n: usize) -> usize
         ⊎ ((v ≤ from_at table.now i) × (result ≡ 0)) }
 {
     if table::arc::from_of(table, i) < v {
-        return n;
+        n
+    } else {
+        0
     }
-    0
 }
 
 // The first arc that leaves v, or where it would stand.
@@ -90,38 +82,24 @@ fn leaving(table: &[u8], nodes: u32, v: u32) -> usize
 // Whether the arcs of v start at g, behind those of another node.
 fn starts_at(table: &[u8], nodes: u32, v: u32, g: usize) -> bool
     requires { table_fault nodes table.now ≡ good }
-    ensures { (result ≡ false) ⊎ (g ≡ run_start table.now v) }
+    ensures { IsTrue result → g ≡ run_start table.now v }
 {
-    if g < 1 {
-        return false;
-    }
-    if table.len() / table::arc::RECORD <= g {
-        return false;
-    }
-    if table::arc::from_of(table, g) < v {
-        return false;
-    }
-    if v <= table::arc::from_of(table, g - 1) {
-        return false;
-    }
-    true
+    0 < g
+        && g < table.len() / table::arc::RECORD
+        && v <= table::arc::from_of(table, g)
+        && table::arc::from_of(table, g - 1) < v
 }
 
 // The first record from g on that does not start below v, or where the looks at records end.
 fn onward(table: &[u8], v: u32, g: u32) -> usize {
-    let end = table.len() / table::arc::RECORD;
-    let stop = g as usize + STEPS;
-    let mut i = g as usize;
-    while i < end {
-        if stop <= i {
-            return i;
-        }
+    let first = g as usize;
+    let end = (table.len() / table::arc::RECORD).min(first + STEPS);
+    for i in first..end {
         if v <= table::arc::from_of(table, i) {
             return i;
         }
-        i += 1;
     }
-    i
+    end
 }
 
 // The first arc that leaves v, or where it would stand, tried first at g, and then from where those

@@ -1,7 +1,7 @@
 -- A cursor's tests, from bytes to the theory: a chain's own candidates come in the order of their last arcs, the arcs that leave its end are those of its node's
 -- run that are open, and one look at an arc makes the cursor right one arc further.
 use mathlib.Core.Path.{◌≡◌, refl, sym, subst, ap, ◌∙◌}
-use mathlib.Core.Logic.{◌≢◌}
+use mathlib.Core.Logic.{⊎_elim, ◌≢◌}
 use mathlib.Core.Bool.{Bool, true, false, ◌&&◌}
 use mathlib.Core.List.{List, [], ◌∷◌, ◌++◌}
 use mathlib.Core.Option.{Option, none, some}
@@ -13,6 +13,7 @@ use lib.ListN.{length}
 use borrow.Author.Tests.{lt-ltb, le-ltb, eq-eqb, ne_eqb}
 use Rattle.lists.specs.Tests.{lex}
 use Rattle.lists.proofs.TestLaws.{and_i, and_l, and_r}
+use Rattle.lists.proofs.Cases.{order}
 use Rattle.net.specs.Net.{Arc, arc}
 use Rattle.net.specs.Route.{end_of, leaves, precedes, length_of}
 use Rattle.net.specs.Round.{Query}
@@ -68,17 +69,20 @@ module _ (t : List ℕ) (a c l m : ℕ) (ha : a < records t) (hc : c < records t
   lc : m ≡ (arc (arcs_of t) c).len
   lc = em ∙ sym (ap (λ r. r.len) (arc-is t c hc))
 
-  pub arc-less : l < m → arc_first (arcs_of t) a c ≡ true
+  arc-less : l < m → arc_first (arcs_of t) a c ≡ true
   unfolding arc_first lex
   arc-less h = rw (← la, ← lc, lt-ltb l m h)
 
-  pub arc-more : m < l → arc_first (arcs_of t) a c ≡ false
+  arc-more : m < l → arc_first (arcs_of t) a c ≡ false
   unfolding arc_first lex
   arc-more h = rw (← la, ← lc, le-ltb l m (omega arith), ne_eqb l m (λ e. omega arith))
 
-  pub arc-even : m ≤ l → l ≤ m → arc_first (arcs_of t) a c ≡ ltb a c
+  pub arc-apart : l ≢ m → ltb l m ≡ arc_first (arcs_of t) a c
+  arc-apart ne = ⊎_elim (λ h. le-ltb l m h ∙ sym (arc-more (omega arith))) (λ h. lt-ltb l m h ∙ sym (arc-less h)) (order m l)
+
+  pub arc-even : l ≡ m → ltb a c ≡ arc_first (arcs_of t) a c
   unfolding arc_first lex
-  arc-even h k = rw (← la, ← lc, le-ltb l m h, eq-eqb l m (omega arith))
+  arc-even e = rw (← la, ← lc, le-ltb l m (omega arith), eq-eqb l m e)
 
 module _ (arcs : List Arc) where
   pub after_none : (from a : ℕ) → from ≡ no_number → after_arc arcs from a ≡ true

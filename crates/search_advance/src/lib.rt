@@ -23,6 +23,7 @@ const LONG: usize = 32;
 
 // A label of the first n, and the arc of its candidate that was last looked at; `NO_ARC` where
 // there is none of its own.
+// `NO_ARC` and no Option: it is the number that the label's bytes hold, which each turn reads and writes.
 #[derive(Clone, Copy)]
 pub struct Place {
     pub n: usize,
@@ -37,11 +38,8 @@ fn arc_first(table: &[u8], a: usize, c: usize) -> bool
 {
     let l = table::arc::length_of(table, a);
     let m = table::arc::length_of(table, c);
-    if l < m {
-        return true;
-    }
-    if m < l {
-        return false;
+    if l != m {
+        return l < m;
     }
     a < c
 }
@@ -85,7 +83,7 @@ pub fn dropped(
     let r = lens.len();
     let arc = c.arc;
     let mut own = [0u64; labels::field::MOST_EARLIER];
-    let trial = Trial { r: r, n: n, c: c };
+    let trial = Trial { r, n, c };
     search_trial::overlap::of_candidate(table, ask, area, marks, labels, trial, &mut own);
     let end = table::arc::to_of(table, arc);
     !search_trial::passes(ask, area, lens, labels, n, end, &own[0..r])
@@ -117,10 +115,7 @@ fn better(
     if !wanted(table, x.from, best, arc) {
         return best;
     }
-    let c = Candidate {
-        label: label,
-        arc: arc,
-    };
+    let c = Candidate { label, arc };
     if dropped(table, ask, area, lens, marks, labels, n, c) {
         return best;
     }
@@ -198,13 +193,11 @@ fn pass(
 {
     let count = table.len() / table::arc::RECORD;
     let mut best = search_ask::NO_ARC;
-    let mut arc = first;
-    while arc < count {
+    for arc in first..count {
         if table::arc::from_of(table, arc) != v {
-            return best;
+            break;
         }
         best = look(table, closed, ask, area, lens, marks, labels, x, best, arc);
-        arc += 1;
     }
     best
 }

@@ -24,6 +24,7 @@ pub struct Candidate {
     pub arc: usize,
 }
 
+// A number, as in the bytes of a label, which each turn reads and writes.
 pub const NO_ARC: usize = 4294967295;
 
 // The words of a slot.
@@ -35,6 +36,7 @@ pub fn width(ask: Ask) -> usize
 }
 
 // Slot j of the area, from 0.
+#[tactic(auto, unfolding(words::specs::Part::slot))]
 pub fn slot(area: &[u32], ask: Ask, j: usize) -> &[u32]
     requires { (1 ≤ ask.nodes) × (j * width ask + width ask ≤ length area.now) }
     ensures { result.now ≡ slot (width ask) j area.now }
@@ -51,7 +53,5 @@ pub fn length_of(table: &[u8], ask: Ask, labels: &[u8], n: usize, c: Candidate) 
     ensures { result
         ≡ length_of (arcs_of table.now) (chain_of labels.now c) }
 {
-    let label = c.label;
-    let arc = c.arc;
-    labels::field::length(labels, label) + table::arc::length_of(table, arc) as u64
+    labels::field::length(labels, c.label) + table::arc::length_of(table, c.arc) as u64
 }

@@ -12,12 +12,10 @@ pub fn clear_work(labels: &mut [u8], n: usize)
     requires { n * label_bytes ≤ length labels.old }
     ensures { labels.new ≡ clear_work n labels.old }
 {
-    let mut i = 0;
-    while i < n {
+    for i in 0..n {
         let at = i * labels::field::LABEL + WORKING;
         words::number::write32(labels, at, 0);
         words::number::write64(labels, at + 4, 0);
         words::number::write64(labels, at + 12, 0);
-        i += 1;
     }
 }

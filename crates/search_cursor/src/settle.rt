@@ -40,7 +40,7 @@ pub fn begin(
         from: search_ask::NO_ARC,
     };
     let arc = search_advance::advance(table, closed, ask, area, lens, marks, labels, ahead, x);
-    let c = Candidate { label: 0, arc: arc };
+    let c = Candidate { label: 0, arc };
     store::store(table, ask, labels, 1, c);
 }
 
@@ -74,10 +74,7 @@ pub fn settle(
     let n = x.n;
     let label = x.label;
     let arc = search_advance::advance(table, closed, ask, area, lens, marks, labels, ahead, x);
-    let c = Candidate {
-        label: label,
-        arc: arc,
-    };
+    let c = Candidate { label, arc };
     store::store(table, ask, labels, n, c);
     search_queue::winner::update(labels, n, label)
 }
@@ -114,7 +111,7 @@ pub fn enter(
         from: search_ask::NO_ARC,
     };
     let arc = search_advance::advance(table, closed, ask, area, lens, marks, labels, ahead, x);
-    let c = Candidate { label: n, arc: arc };
+    let c = Candidate { label: n, arc };
     store::store(table, ask, labels, n + 1, c);
     search_queue::winner::enter(labels, n, root)
 }

@@ -57,9 +57,6 @@ eqb_swap : (x y : ℕ) → eqb x y ≡ eqb y x
 eqb_swap x y = ⊎_elim (λ e. e ∙ sym (eq-eqb y x (sym (eqb-true x y e)))) (λ e. e ∙ sym (ne_eqb y x (λ z. eqb-false x y e (sym z)))) (cases (eqb x y))
 
 module _ (t : List ℕ) (a number x : ℕ) (is : number ≡ road (roads_of t) a) (some : 0 < number) where
-  pub same_word : x ≡ a → same_road (roads_of t) a x ≡ true
-  same_word e = rw (eq-eqb a x (sym e))
-
   pub same-past : x ≢ a → records t ≤ x → same_road (roads_of t) a x ≡ false
   same-past ne past = rw (ne_eqb a x (λ e. ne (sym e)), road-past t x past, ne_eqb (road (roads_of t) a) 0 (λ z. omega arith))
 

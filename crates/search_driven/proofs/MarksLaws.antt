@@ -1,22 +1,21 @@
 -- The filter. A bit once set stays set, since the bits of an `or` are those of either side; so after the words of a slot are marked the bit of each arc among them is
 -- set. Arcs of one road have one key. So an arc whose road an earlier answer drives has the bit of that answer's arc.
 use mathlib.Core.Path.{◌≡◌, refl, sym, ap, subst, ◌∙◌}
-use mathlib.Core.Bool.{Bool, true, false, not, ◌&&◌, ◌||◌, cond}
+use mathlib.Core.Bool.{Bool, true, false, not, ◌&&◌, cond}
 use mathlib.Core.List.Memᴰ
 use mathlib.Core.List.{List, [], ◌∷◌, Memᴰ}
 use mathlib.Core.Logic.{◌≢◌, ◌⊎◌, inl, inr, ⊎_elim}
 use Prim.Native.Nat.{ℕ, ◌+◌, ◌*◌, ◌/◌, ◌%◌, ◌^◌, max, ◌≤◌, ◌<◌}
 use native.Mathlib.Omega.{arith}
-use native.Mathlib.Decide.{ℕ_discrete}
 use lib.Bits.{bit_or, or_shr, or_step}
 use lib.Dec.{T, ltb, eqb}
-use lib.ListN.{length, get_or, set, length-set, drop, drop_of_length-le}
+use lib.ListN.{length, get_or, length-set, drop, drop_of_length-le}
 use lib.Pow.{pow_pos, pow_mono}
 use lib.Seq.{get_or-set_same, get_or-set_other, drop-cons}
 use borrow.Author.Tests.{eq-eqb, ne_eqb, eqb-true, eqb-false, lt-ltb}
 use native.Mathlib.Nat.{div_self}
 use native.Mathlib.Numerals.{add-one}
-use Rattle.lists.specs.Tests.{up_from, any, keep}
+use Rattle.lists.specs.Tests.{up_from}
 use Rattle.lists.proofs.Cases.{cases, order}
 use Rattle.lists.proofs.TestLaws.{any-e, keep-e}
 use Rattle.lists.proofs.MemberLaws.{up_from-e}

@@ -21,15 +21,13 @@ fn stands_on(slot: &[u32], arc: u32) -> bool
     requires { (Formed slot.now) × (arc ≢ no_number) }
     ensures { result ≡ any (eqb arc) slot.now }
 {
-    let mut i = 0;
-    while i < slot.len() {
-        if slot[i] == arc {
+    for &word in slot {
+        if word == arc {
             return true;
         }
-        if slot[i] == labels::field::NONE {
+        if word == labels::field::NONE {
             return false;
         }
-        i += 1;
     }
     false
 }
@@ -39,14 +37,9 @@ fn same_road(table: &[u8], arc: u32, number: u32, word: u32) -> bool
     requires { (number ≡ road (roads_of table.now) arc) × (0 < number) }
     ensures { result ≡ same_road (roads_of table.now) arc word }
 {
-    if word == arc {
-        return true;
-    }
     let other = word as usize;
-    if table.len() / table::arc::RECORD <= other {
-        return false;
-    }
-    table::arc::road_of(table, other) == number
+    word == arc
+        || (other < table.len() / table::arc::RECORD && table::arc::road_of(table, other) == number)
 }
 
 // Whether an arc of this arc's road, whose number is not zero, stands on the slot.
@@ -55,15 +48,13 @@ fn drives_road(table: &[u8], slot: &[u32], arc: u32, number: u32) -> bool
         × (arc ≢ no_number) × (records table.now ≤ most_arcs) }
     ensures { result ≡ any (same_road (roads_of table.now) arc) slot.now }
 {
-    let mut i = 0;
-    while i < slot.len() {
-        if slot[i] == labels::field::NONE {
+    for &word in slot {
+        if word == labels::field::NONE {
             return false;
         }
-        if same_road(table, arc, number, slot[i]) {
+        if same_road(table, arc, number, word) {
             return true;
         }
-        i += 1;
     }
     false
 }

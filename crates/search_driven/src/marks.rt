@@ -14,6 +14,7 @@ pub const WORDS: usize = 32;
 const BITS: u32 = 2048;
 
 // The key of an arc.
+#[tactic(auto, using(std::proofs::lemmas::Bool::Decides::nat_tests), unfolding(crate::specs::Marks::key_at))]
 fn key(table: &[u8], arc: usize) -> u32
     requires { (arc < records table.now) × (records table.now ≤ most_arcs) }
     ensures { result ≡ key_at table.now arc }
@@ -26,6 +27,7 @@ fn key(table: &[u8], arc: usize) -> u32
 }
 
 // Whether bit h is set.
+#[tactic(auto, unfolding(crate::specs::Marks::marked))]
 fn is_set(marks: &[u64], h: usize) -> bool
     requires { (h < mark_bits) × (length marks.now ≡ mark_words) }
     ensures { result ≡ marked marks.now h }
@@ -37,8 +39,7 @@ fn set(marks: &mut [u64], h: usize)
     requires { (h < mark_bits) × (length marks.old ≡ mark_words) }
     ensures { marks.new ≡ with_mark marks.old h }
 {
-    let i = h / 64;
-    marks[i] = marks[i] | (1u64 << (h % 64));
+    marks[h / 64] |= 1 << (h % 64);
 }
 
 // Whether an earlier answer may drive the road of an arc: false only where none does.
@@ -69,10 +70,8 @@ pub fn mark_slot(table: &[u8], marks: &mut [u64], slot: &[u32])
     ensures { marks.new ≡ with_marks table.now slot.now
         marks.old }
 {
-    let mut i = 0;
-    while i < slot.len() {
-        mark(table, marks, slot[i]);
-        i += 1;
+    for &word in slot {
+        mark(table, marks, word);
     }
 }
 
@@ -83,9 +82,7 @@ pub fn mark_earlier(table: &[u8], ask: Ask, area: &[u32], r: usize, marks: &mut 
     ensures { Filter table.now (earlier_in (width ask) r area.now)
         marks.new }
 {
-    let mut j = 0;
-    while j < r {
+    for j in 0..r {
         mark_slot(table, marks, search_ask::slot(area, ask, j));
-        j += 1;
     }
 }

@@ -7,6 +7,7 @@ ghost use Rattle.search_lists.specs.Listed.{place_of, head_of};
 use search_ask::Ask;
 
 // Where in the area the word of node v stands, after r earlier answers. No word is for s.
+#[tactic(auto, unfolding(crate::specs::Listed::place_of))]
 pub fn place(ask: Ask, r: usize, area: &[u32], v: u32) -> usize
     requires { (r * width ask + width ask ≤ length area.now)
         × (v < ask.nodes) × (v ≢ ask.s) × (ask.s < ask.nodes) }
@@ -21,6 +22,7 @@ pub fn place(ask: Ask, r: usize, area: &[u32], v: u32) -> usize
 }
 
 // The head that a word is: 0 where there is no list.
+#[tactic(auto, unfolding(crate::specs::Listed::head_of))]
 pub fn head(word: u32) -> usize
     ensures { result ≡ head_of word }
 {

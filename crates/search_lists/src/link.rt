@@ -1,5 +1,6 @@
 // The link of a label by its number: the number, and one more, of the label that comes after it in
-// its list; 0 ends the list. Callers never see offsets.
+// its list; 0 ends the list. Callers never see offsets. A number and no Option: a list is mended, and
+// a head becomes a link, by writing the number that was read.
 ghost use Rattle.std.specs.Prelude.{◌≡◌, ◌+◌, ◌*◌, ◌≤◌, length};
 ghost use Rattle.labels.specs.Field.{label_bytes};
 ghost use Rattle.search_lists.specs.Link.{link_at, put_link};

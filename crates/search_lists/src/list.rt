@@ -13,14 +13,7 @@ fn no_greater(labels: &[u8], k: usize, own: &[u64]) -> bool
         × (length own.now ≤ most_earlier) }
     ensures { result ≡ none_greater labels.now k own.now }
 {
-    let mut j = 0;
-    while j < own.len() {
-        if own[j] < labels::field::overlap(labels, k, j) {
-            return false;
-        }
-        j += 1;
-    }
-    true
+    (0..own.len()).all(|j| labels::field::overlap(labels, k, j) <= own[j])
 }
 
 // Whether a label of the list from a head on has no greater overlap with each earlier answer.
@@ -46,14 +39,7 @@ fn covers(labels: &[u8], r: usize, k: usize, i: usize) -> bool
         × (i * label_bytes + label_bytes ≤ length labels.now) × (r ≤ most_earlier) }
     ensures { result ≡ covers_at labels.now r k i }
 {
-    let mut j = 0;
-    while j < r {
-        if labels::field::overlap(labels, i, j) < labels::field::overlap(labels, k, j) {
-            return false;
-        }
-        j += 1;
-    }
-    true
+    (0..r).all(|j| labels::field::overlap(labels, k, j) <= labels::field::overlap(labels, i, j))
 }
 
 // Takes out of the list behind label i what it covers.

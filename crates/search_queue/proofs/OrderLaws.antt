@@ -1,13 +1,14 @@
 -- `NotAfter` is reflexive and transitive, since keys and then arc numbers are a strict total order of the candidates; and how the code compares two.
 use mathlib.Core.Path.{◌≡◌, refl, sym, subst, ◌∙◌}
-use mathlib.Core.Logic.{◌⊎◌, inl, inr}
+use mathlib.Core.Logic.{◌⊎◌, inl, inr, ⊎_elim, ◌≢◌}
 use mathlib.Core.Bool.{Bool, true, false, not}
 use mathlib.Core.List.{List}
-use Prim.Native.Nat.{ℕ, ◌≤◌, ◌<◌}
+use Prim.Native.Nat.{ℕ, ◌<◌}
 use native.Mathlib.Omega.{arith}
-use lib.Dec.{T, T_not, not_T}
+use lib.Dec.{T, ltb, T_not, not_T}
 use borrow.Author.Tests.{lt-ltb, le-ltb, eq-eqb, ne_eqb}
 use Rattle.lists.specs.Tests.{lex}
+use Rattle.lists.proofs.Cases.{order}
 use Rattle.lists.proofs.TestLaws.{lex_irrefl, lex-trans, lex-total}
 use Rattle.net.specs.Route.{numbers_first}
 use Rattle.net.proofs.Order.{numbers-irrefl, numbers-trans, numbers-total}
@@ -80,14 +81,18 @@ module _ (l : List ℕ) where
   -- ---- the comparison, from keys k and m
 
   module _ (i j k m : ℕ) (ek : k ≡ key_at l i) (em : m ≡ key_at l j) where
-    pub sooner-less : k < m → sooner l i j ≡ true
+    sooner-less : k < m → sooner l i j ≡ true
     unfolding sooner lex
     sooner-less h = rw (← ek, ← em, lt-ltb k m h)
 
-    pub sooner-more : m < k → sooner l i j ≡ false
+    sooner-more : m < k → sooner l i j ≡ false
     unfolding sooner lex
     sooner-more h = rw (← ek, ← em, le-ltb k m (omega arith), ne_eqb k m (λ e. omega arith))
 
-    pub sooner-even : m ≤ k → k ≤ m → sooner l i j ≡ numbers_first (own_at l i) (own_at l j)
+    pub sooner-apart : k ≢ m → ltb k m ≡ sooner l i j
+    sooner-apart ne =
+        ⊎_elim (λ h. le-ltb k m h ∙ sym (sooner-more (omega arith))) (λ h. lt-ltb k m h ∙ sym (sooner-less h)) (order m k)
+
+    pub sooner-even : k ≡ m → sooner l i j ≡ numbers_first (own_at l i) (own_at l j)
     unfolding sooner lex
-    sooner-even h g = rw (← ek, ← em, le-ltb k m h, eq-eqb k m (omega arith))
+    sooner-even e = rw (← ek, ← em, le-ltb k m (omega arith), eq-eqb k m e)

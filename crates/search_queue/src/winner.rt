@@ -8,7 +8,7 @@
 ghost use Rattle.std.specs.Prelude.{◌≡◌, ◌+◌, ◌*◌, ◌/◌, ◌%◌, ◌≤◌, ◌<◌};
 ghost use Rattle.net.specs.Limits.{most_labels};
 ghost use Rattle.labels.specs.Standing.{Comparable};
-ghost use Rattle.search_tree.specs.Tree.{First, Tree, TreeBut, Climbs, Enters, Block, Narrowed};
+ghost use Rattle.search_tree.specs.Tree.{First, Tree, TreeBut, Climbs, Enters, Block};
 ghost use Rattle.search_queue.specs.Working.{winner_at};
 ghost use Rattle.search_queue.specs.Only.{Only};
 ghost use Rattle.search_queue.specs.Order.{sooner, NotAfter, Chosen};
@@ -22,11 +22,8 @@ fn is_sooner(labels: &[u8], n: usize, i: usize, j: usize) -> bool
 {
     let k = working::key(labels, i);
     let m = working::key(labels, j);
-    if k < m {
-        return true;
-    }
-    if m < k {
-        return false;
+    if k != m {
+        return k < m;
     }
     let a = working::cursor(labels, i);
     let c = working::cursor(labels, j);
@@ -38,26 +35,7 @@ fn choose(labels: &[u8], n: usize, i: usize, j: usize) -> usize
     requires { (Comparable labels.now n) × (i < n) × (j < n) }
     ensures { Chosen labels.now i j result }
 {
-    if is_sooner(labels, n, j, i) {
-        return j;
-    }
-    i
-}
-
-// The part, from e on, of a block of `size` labels that has all that are below n and is no larger
-// than that takes.
-fn narrow(e: usize, size: usize, n: usize) -> usize
-    requires { (Block e size) × (e ≤ most_labels) × (size ≤ most_labels) }
-    ensures { Narrowed n e size result }
-{
-    let mut s = size;
-    while 1 < s {
-        if e + s / 2 < n {
-            return s;
-        }
-        s = s / 2;
-    }
-    s
+    if is_sooner(labels, n, j, i) { j } else { i }
 }
 
 // The first of the block of `half` labels from e on, next to block j of as many, in which i stands.
@@ -67,7 +45,7 @@ fn first_of(labels: &[u8], n: usize, i: usize, j: usize, half: usize, w: usize, 
         × (Block e half) × (e < n) }
     ensures { First (NotAfter labels.now) n e (e + half) result }
 {
-    let s = narrow(e, half, n);
+    let s = search_tree::narrow(e, half, n);
     if s == 1 {
         return e;
     }

@@ -1,33 +1,24 @@
 -- A label holds its overlaps, so a candidate's are those and what its arc adds; an overlap is at most the chain's length, which a label keeps below its limit.
-use mathlib.Core.Path.{◌≡◌, refl, sym, ap, ◌∙◌}
-use mathlib.Core.Bool.{Bool, true, false, not, ◌||◌}
+use mathlib.Core.Path.{◌≡◌, sym, ap, ◌∙◌}
 use mathlib.Core.List.{List, [], ◌∷◌, ◌++◌}
-use mathlib.Core.Logic.{◌≢◌}
-use Prim.Native.Nat.{ℕ, suc, ◌+◌, ◌*◌, ◌≤◌, ◌<◌}
+use Prim.Native.Nat.{ℕ, ◌+◌, ◌*◌, ◌≤◌, ◌<◌}
 use native.Mathlib.Omega.{arith}
-use native.Mathlib.Nat.{mul-le-mul_right}
 use native.Mathlib.Numerals.{add-one}
-use lib.Dec.{eqb}
-use lib.ListN.{length, get_or, set, take, drop, drop_of_length-le}
-use lib.Seq.{drop-cons, take-suc, take-suc-set}
-use borrow.Author.Tests.{eq-eqb, ne_eqb, eqb-true}
-use Rattle.lists.specs.Tests.{has, keep, cons_if}
-use Rattle.lists.proofs.LoopLaws.{length-map-up_from, get_or-map-up_from}
-use Rattle.words.specs.Part.{slot}
+use lib.ListN.{length, get_or, set, take}
+use lib.Seq.{take-suc, take-suc-set}
 use Rattle.net.specs.Net.{Net, arc}
 use Rattle.net.specs.Route.{end_of, length_of, overlap}
-use Rattle.net.specs.Limits.{most_nodes, most_length, most_arcs}
+use Rattle.net.specs.Limits.{most_nodes, most_length}
 use Rattle.net.proofs.Chains.{end_of-more}
 use Rattle.net.proofs.Overlap.{overlap-append}
 use Rattle.net.proofs.Lengths.{overlap-most}
 use Rattle.net.proofs.Order.{length_of-append}
-use Rattle.table.specs.Table.{records, to_at, len_at, arcs_of, net_of}
+use Rattle.table.specs.Table.{records, to_at, arcs_of}
 use Rattle.table.proofs.NetLaws.{arc-is}
-use Rattle.labels.specs.Field.{no_number, overlap_at}
+use Rattle.labels.specs.Field.{overlap_at}
 use Rattle.labels.specs.Chain.{chain_at}
 use Rattle.labels.specs.Standing.{Standing, Holding}
 use Rattle.labels.proofs.OverlapLaws.{overlap-held}
-use Rattle.search_ask.specs.Earlier.{route_in, earlier_in}
 
 -- ---- a candidate's chain, of label i's and one arc more, with the j-th earlier route
 

@@ -11,7 +11,6 @@ use lib.ListN.{length, get_or}
 use Rattle.lists.specs.Tests.{up_from, every, any}
 use Rattle.lists.proofs.TestLaws.{and_r}
 use Rattle.lists.proofs.LoopLaws.{every-at, any_at}
-use Rattle.net.specs.Net.{Net}
 use Rattle.net.specs.Route.{end_of, length_of, overlap, within}
 use Rattle.net.specs.Round.{Query, within_all, no_greater}
 use Rattle.net.specs.Search.{covered, passes}

@@ -25,12 +25,10 @@ fn within(ask: Ask, lens: &[u64], own: &[u64]) -> bool
 {
     let above = ask.a as u64;
     let below = ask.b as u64;
-    let mut j = 0;
-    while j < own.len() {
-        if above * lens[j] < below * own[j] {
+    for (j, overlap) in own.iter().enumerate() {
+        if above * lens[j] < below * *overlap {
             return false;
         }
-        j += 1;
     }
     true
 }
@@ -51,8 +49,5 @@ pub fn passes(
     ensures { result ≡ passes_at ask lens.now labels.now n end
         own.now }
 {
-    if !within(ask, lens, own) {
-        return false;
-    }
-    !search_lists::covered(ask, area, labels, n, end, own)
+    within(ask, lens, own) && !search_lists::covered(ask, area, labels, n, end, own)
 }

@@ -21,10 +21,11 @@ fn share_of(table: &[u8], ask: Ask, slot: &[u32], arc: usize, may: bool) -> u64
     ensures { result ≡ overlap (net_for ask table.now []) (arc ∷ [])
         (route_in slot.now) }
 {
-    if !may {
-        return 0;
+    if may {
+        search_driven::shared(table, ask, slot, arc)
+    } else {
+        0
     }
-    search_driven::shared(table, ask, slot, arc)
 }
 
 // The overlaps of a candidate with the earlier answers in the first words of own: to each that its
@@ -51,10 +52,8 @@ pub fn of_candidate(
     let label = c.label;
     let arc = c.arc;
     let may = search_driven::marks::may_drive(table, marks, arc);
-    let mut j = 0;
-    while j < r {
+    for j in 0..r {
         let share = share_of(table, ask, search_ask::slot(area, ask, j), arc, may);
         own[j] = labels::field::overlap(labels, label, j) + share;
-        j += 1;
     }
 }

@@ -4,7 +4,7 @@
 use mathlib.Core.Path.{◌≡◌, ap, ◌∙◌}
 use mathlib.Core.List.{List}
 use mathlib.Core.Bool.{Bool, false}
-use mathlib.Core.Logic.{◌⊎◌, ⊎_elim}
+use mathlib.Core.Logic.{⊎_elim}
 use Prim.Native.Nat.{ℕ, ◌+◌, ◌≤◌, ◌<◌}
 use native.Mathlib.Omega.{arith}
 use lib.Dec.{leb}
@@ -45,6 +45,9 @@ module _ (second : List ℕ) (v : ℕ) where
   coming-below : (i : ℕ) → i < coming_start second v → to_at second i < v
   unfolding coming_start
   coming-below i h = leb-false v (to_at second i) (first_below (ends_from second v) (records second) 0 i (omega arith) h)
+
+-- the bounds of a run
+pub ruleset coming_bounds = (coming-le, coming-order)
 
 module _ (nodes : ℕ) (t : List ℕ) (ok : table_fault nodes t ≡ good) where
   -- the arcs before record j that end where it does lie below lo

@@ -1,10 +1,10 @@
 -- The first arc that goes from u to v, from a number on. Before the run of u no arc starts at u, nor from the first one on after it that starts elsewhere, so a walk
 -- of the run finds it. What is found is such an arc; and an arc before which none comes to its end is found where it is looked for by its own two nodes.
-use mathlib.Core.Path.{◌≡◌, refl}
+use mathlib.Core.Path.{◌≡◌, refl, sym, ap, ◌∙◌}
 use mathlib.Core.Bool.{Bool, true, false, ◌&&◌}
 use mathlib.Core.List.{List}
-use mathlib.Core.Logic.{◌⊎◌, ⊎_elim}
-use Prim.Native.Nat.{ℕ, ◌+◌, ◌-◌, ◌≤◌, ◌<◌}
+use mathlib.Core.Logic.{⊎_elim}
+use Prim.Native.Nat.{ℕ, ◌+◌, ◌-◌, ◌≤◌, ◌<◌, max}
 use native.Mathlib.Omega.{arith}
 use lib.Dec.{eqb}
 use borrow.Author.Tests.{eqb-true, eq-eqb, ne_eqb}
@@ -83,6 +83,15 @@ module _ (t : List ℕ) (u v : ℕ) where
       first-is p (n - lo) lo r (omega (arith, first-ge p (n - s) s)) (omega (arith, first-le p (n - s) s))
       (λ i x y. ⊎_elim (λ w. first_below p (n - s) s i w y) (λ w. other-start i (λ z. omega (arith, run-to t u i (omega arith)))) (order s i))
       (λ x. first-at p (n - s) s (omega arith))
+
+  -- so it may begin there
+  pub next-max : (lo : ℕ) → next_from t u v (max lo (run_start t u)) ≡ next_from t u v lo
+  next-max lo =
+      let m = max lo (run_start t u) in
+      ⊎_elim
+      (λ w. let e : m ≡ lo = omega arith in ap (next_from t u v) e)
+      (λ w. let e : m ≡ run_start t u = omega arith in ap (next_from t u v) e ∙ sym (next-run lo w))
+      (order (run_start t u) lo)
 
   -- nothing from the first on that starts elsewhere
   pub next-left : (nodes : ℕ) → table_fault nodes t ≡ good → (a : ℕ) → run_start t u ≤ a → a < records t → (from_at t a ≡ u → ⊥) → next_from t u v a ≡ records t

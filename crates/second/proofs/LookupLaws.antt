@@ -5,11 +5,26 @@ use mathlib.Core.List.{List, []}
 use Prim.Native.Nat.{ℕ, ◌≤◌, ◌<◌}
 use lib.Dec.{ltb, eqb}
 use borrow.Author.Tests.{lt-ltb, le-ltb, ne_eqb}
+use native.Mathlib.Omega.{arith}
+use Rattle.std.proofs.Common.{Result, Ok, Err, is_err, ◌≢◌}
+use Rattle.outcome.specs.declared.Refusal.{Refusal}
+use Rattle.outcome.specs.Outcome.{told_by}
+use Rattle.outcome.proofs.OutcomeLaws.{refused_not_zero}
 use Rattle.table.specs.Fault.{table_fault, good}
 use Rattle.second.specs.declared.Direction.{Direction}
 use Rattle.second.specs.Second.{wrong_second}
 use Rattle.second.specs.Lookup.{part_by, run_by}
 use Rattle.second.proofs.FindLaws.{and-false}
+
+-- ---- what a check tells by being an Err or not
+
+pub ok-good : {X : Type 0} (checked : Result X Refusal) → is_err checked ≡ false → told_by checked ≡ good
+ok-good (Ok _) h = refl
+ok-good (Err _) h = absurd (grind arith)
+
+pub err-faulty : {X : Type 0} (checked : Result X Refusal) → is_err checked ≡ true → (told_by checked).outcome ≢ 0
+err-faulty (Ok _) h = absurd (grind arith)
+err-faulty (Err refusal) h = refused_not_zero refusal
 
 module _ (nodes : ℕ) (t second : List ℕ) (direction : Direction) (v : ℕ) where
   pub run-part : table_fault nodes t ≡ good → wrong_second nodes t second ≡ false → v < nodes → run_by nodes t second direction v ≡ part_by direction t second v

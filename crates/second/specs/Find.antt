@@ -1,5 +1,5 @@
 -- Which arc a record of the second table is, told by the record's fields and what was found for the records before it.
-use Rattle.std.specs.Prelude.{Bool, ◌&&◌, cond, List, ℕ, ◌-◌, ltb, eqb}
+use Rattle.std.specs.Prelude.{◌≡◌, Bool, ◌&&◌, cond, List, Option, Some, None, ℕ, ◌-◌, ◌<◌, ltb, eqb}
 use Rattle.lists.specs.Index.{first_at}
 use Rattle.table.specs.Table.{records, from_at, to_at, len_at, road_at}
 
@@ -26,3 +26,8 @@ unfolding next_from look_from alike
 found_for t second j end lo =
     let a = next_from t (from_at second j) (to_at second j) (look_from end lo (to_at second j)) in
     cond (ltb (to_at second j) end) (records t) (cond (alike t a second j) a (records t))
+
+-- What is found is arc a, or none where a is the number of arcs.
+abbrev pub IsArc : List ℕ → ℕ → Option ℕ → Type 0
+IsArc t a None = a ≡ records t
+IsArc t a (Some found) = (found ≡ a) × (a < records t)

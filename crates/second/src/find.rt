@@ -3,37 +3,30 @@ ghost use Rattle.std.specs.Prelude.{◌≡◌, ◌≤◌};
 ghost use Rattle.table.specs.Table.{records};
 ghost use Rattle.table.specs.Fault.{table_fault, good};
 ghost use Rattle.table.specs.Run.{run_start};
-ghost use Rattle.second.specs.Find.{next_from};
+ghost use Rattle.second.specs.Find.{next_from, IsArc};
 
-// The first arc from `first` on, in or after the run of u, that goes from u to v, or the number of
-// arcs.
-fn walk(table: &[u8], nodes: u32, u: u32, v: u32, first: usize) -> usize
+// The first arc from `first` on, in or after the run of u, that goes from u to v.
+fn walk(table: &[u8], nodes: u32, u: u32, v: u32, first: usize) -> Option<usize>
     requires { (table_fault nodes table.now ≡ good)
         × (run_start table.now u ≤ first) × (first ≤ records table.now) }
-    ensures { result ≡ next_from table.now u v first }
+    ensures { IsArc table.now (next_from table.now u v first) result }
 {
-    let n = table.len() / table::arc::RECORD;
-    let mut a = first;
-    while a < n {
+    for a in first..table.len() / table::arc::RECORD {
         if table::arc::from_of(table, a) != u {
-            return n;
+            return None;
         }
         if table::arc::to_of(table, a) == v {
-            return a;
+            return Some(a);
         }
-        a += 1;
     }
-    n
+    None
 }
 
-// The first arc from `lo` on that goes from u to v, or the number of arcs; u's arcs start at `first`.
-pub fn next(table: &[u8], nodes: u32, u: u32, first: usize, v: u32, lo: usize) -> usize
+// The first arc from `lo` on that goes from u to v; u's arcs start at `first`.
+pub fn next(table: &[u8], nodes: u32, u: u32, first: usize, v: u32, lo: usize) -> Option<usize>
     requires { (table_fault nodes table.now ≡ good) × (first ≡ run_start table.now u)
         × (lo ≤ records table.now) }
-    ensures { result ≡ next_from table.now u v lo }
+    ensures { IsArc table.now (next_from table.now u v lo) result }
 {
-    if lo < first {
-        return walk(table, nodes, u, v, first);
-    }
-    walk(table, nodes, u, v, lo)
+    walk(table, nodes, u, v, lo.max(first))
 }

@@ -12,7 +12,7 @@ ghost use Rattle.second.specs.Second.{wrong_second};
 ghost use Rattle.second.specs.Lookup.{coming_start, coming_of, part_by, run_by};
 
 // Which arcs of a node: those that leave it, or those that come to it.
-#[derive(Drop)]
+#[derive(Clone, Copy, Debug, PartialEq, Eq)]
 pub enum Direction {
     Leaving,
     Coming,
@@ -27,19 +27,15 @@ fn wrong_by(table: &[u8], second: &[u8], nodes: u32, starts: &mut [u32]) -> bool
     if second.len() != table.len() {
         return true;
     }
-    let n = table.len() / table::arc::RECORD;
-    let mut end = 0u32;
+    let mut end = 0;
     let mut lo = 0;
-    let mut j = 0;
-    while j < n {
+    for j in 0..table.len() / table::arc::RECORD {
         let first = run_starts::kept(table, nodes, table::arc::from_of(second, j), starts);
-        let a = judge::found_for(table, second, nodes, j, first, end, lo);
-        if n <= a {
+        let Some(a) = judge::found_for(table, second, nodes, j, first, end, lo) else {
             return true;
-        }
+        };
         end = table::arc::to_of(second, j);
         lo = a + 1;
-        j += 1;
     }
     false
 }
@@ -72,6 +68,7 @@ pub fn coming_start(table: &[u8], second: &[u8], nodes: u32, v: u32) -> usize
 }
 
 // The records of a right second table that end at v.
+#[tactic(auto, using(crate::proofs::ComingLaws::coming_bounds), unfolding(crate::specs::Lookup::coming_of))]
 fn coming_of<'a>(table: &'a [u8], second: &'a [u8], nodes: u32, v: u32) -> &'a [u8]
     requires { (table_fault nodes table.now ≡ good)
         × (wrong_second nodes table.now second.now ≡ false) × (v < nodes) }
@@ -83,6 +80,7 @@ fn coming_of<'a>(table: &'a [u8], second: &'a [u8], nodes: u32, v: u32) -> &'a [
 }
 
 // The run of node v by direction, of a good table and a right second one.
+#[tactic(auto, unfolding(crate::specs::Lookup::part_by))]
 fn part_by<'a>(
     table: &'a [u8],
     second: &'a [u8],
@@ -113,15 +111,8 @@ pub fn run<'a>(
     ensures { result.now
         ≡ run_by nodes table.now second.now direction v }
 {
-    if nodes <= v {
-        return &table[0..0];
-    }
-    let told = table::fault::check(table, nodes);
-    if told.outcome != outcome::FOUND {
-        return &table[0..0];
-    }
-    if wrong(table, second, nodes) {
-        return &table[0..0];
+    if nodes <= v || table::fault::check(table, nodes).is_err() || wrong(table, second, nodes) {
+        return &[];
     }
     part_by(table, second, nodes, direction, v)
 }

@@ -25,18 +25,24 @@ pub struct Sums {
     pub labels: [u16; MOST_ROUTES],
 }
 
+impl Sums {
+    // Of rounds that gave no route: zeros.
+    pub const NONE: Sums = Sums {
+        length: [0; MOST_ROUTES],
+        arcs: [0; MOST_ROUTES],
+        labels: [0; MOST_ROUTES],
+    };
+}
+
 // The summary of round i, from 0.
 pub fn at(t: Sums, i: usize) -> Summary
     requires { i < most_routes }
     ensures { result ≡ record_at t i }
 {
-    let length = t.length;
-    let arcs = t.arcs;
-    let labels = t.labels;
     Summary {
-        length: length[i],
-        arcs: arcs[i] as u64,
-        labels: labels[i] as u64,
+        length: t.length[i],
+        arcs: t.arcs[i] as u64,
+        labels: t.labels[i] as u64,
     }
 }
 
@@ -46,17 +52,11 @@ pub fn with(t: Sums, i: usize, length: u64, arcs: u16, labels: u16) -> Sums
     ensures { result
         ≡ set_entry t i (record { length = length; arcs = arcs; labels = labels }) }
 {
-    let mut lengths = t.length;
-    let mut many = t.arcs;
-    let mut counts = t.labels;
-    lengths[i] = length;
-    many[i] = arcs;
-    counts[i] = labels;
-    Sums {
-        length: lengths,
-        arcs: many,
-        labels: counts,
-    }
+    let mut t = t;
+    t.length[i] = length;
+    t.arcs[i] = arcs;
+    t.labels[i] = labels;
+    t
 }
 
 // The first n records are those of t; the others stay.
@@ -64,9 +64,7 @@ pub fn write(s: &mut [Summary], t: Sums, n: usize)
     requires { (n ≤ most_routes) × (n ≤ length s.old) }
     ensures { s.new ≡ written t n s.old }
 {
-    let mut i = 0;
-    while i < n {
+    for i in 0..n {
         s[i] = at(t, i);
-        i += 1;
     }
 }

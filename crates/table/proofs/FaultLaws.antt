@@ -1,10 +1,10 @@
 -- A record has fault 0 only if no test of `fault_of` fires, so each of the six facts of `Good` is one test's failure. The scan `lowest` ends good
 -- only if every record it passes has fault 0; otherwise it stops at the first that has one. `lowest-done`, `lowest_step` and `lowest-stop` are the
 -- turns of a loop over the records that are left.
-use mathlib.Core.Path.{◌≡◌, refl, ap, ◌∙◌}
+use mathlib.Core.Path.{◌≡◌, refl, ap}
 use mathlib.Core.Bool.{Bool, true, false, not, ◌&&◌, ◌||◌, cond}
 use mathlib.Core.List.{List}
-use mathlib.Core.Logic.{◌⊎◌, inl, inr, ⊎_elim}
+use mathlib.Core.Logic.{⊎_elim}
 use Prim.Native.Nat.{ℕ, zero, suc, ◌+◌, ◌-◌, ◌%◌, ◌≤◌, ◌<◌}
 use native.Mathlib.Nat.{add-zero, zero-add}
 use native.Mathlib.Numerals.{add-one}

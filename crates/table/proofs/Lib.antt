@@ -1,4 +1,5 @@
 pub mod FaultLaws
+pub mod Tests
 pub mod NetLaws
 pub mod RunLaws
 pub mod TableLaws

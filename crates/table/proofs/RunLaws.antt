@@ -1,7 +1,7 @@
 -- Runs. `run_start t v` is the first record that starts at v or above, so one search serves both ends of a run. In a good table start nodes never fall, so
 -- all before it start below v and all from it on at v or above: v's run has the records that start at v, and no others. `next_arc` is the same search
 -- for an arc that is usable.
-use mathlib.Core.Path.{◌≡◌, refl, ap, ◌∙◌}
+use mathlib.Core.Path.{◌≡◌, ap, ◌∙◌}
 use mathlib.Core.Bool.{Bool, true, false}
 use mathlib.Core.List.{List, []}
 use mathlib.Core.Logic.{◌↔◌, ⊎_elim}
@@ -11,14 +11,13 @@ use native.Mathlib.Omega.{arith}
 use lib.Dec.{T, leb, eqb}
 use lib.ListN.{length, drop, length-take, length-drop}
 use borrow.Author.Tests.{leb-true, leb-false, le-leb, lt-ltb, le-ltb, ne_eqb}
-use Rattle.lists.specs.Index.{first_at}
 use Rattle.lists.proofs.Cases.{cases, order}
 use Rattle.lists.proofs.IndexLaws.{first-ge, first-le, first_below, first-at, first-mono}
 use Rattle.words.specs.Number.{num}
 use Rattle.words.proofs.RecordLaws.{num-take, num-drop}
 use Rattle.net.specs.Route.{leaves}
 use Rattle.net.proofs.Chains.{Leaves, leaves-e, leaves-i}
-use Rattle.table.specs.Table.{records, from_at, to_at, len_at, arc_at, net_of}
+use Rattle.table.specs.Table.{records, from_at, arc_at, net_of}
 use Rattle.table.specs.Fault.{prev_of, table_fault, good}
 use Rattle.table.specs.Run.{run_start, run_of, arcs_from, next_arc}
 use Rattle.table.proofs.FaultLaws.{all-good, prev-step}

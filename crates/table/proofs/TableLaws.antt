@@ -11,7 +11,7 @@ use Rattle.words.specs.Number.{num, put, bytes_of}
 use Rattle.words.proofs.BytesLaws.{length-bytes_of, num-bytes, put-bytes}
 use Rattle.words.proofs.RecordLaws.{num-drop}
 use Rattle.net.specs.Net.{Arc}
-use Rattle.table.specs.Table.{record_bytes, records, road_at, NoRoads, record_of, table_of, put_arc, put_arcs}
+use Rattle.table.specs.Table.{record_bytes, road_at, NoRoads, record_of, table_of, put_arc, put_arcs}
 
 pub length-record_of : (x : Arc) → length (record_of x) ≡ record_bytes
 unfolding record_of

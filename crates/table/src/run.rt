@@ -42,9 +42,8 @@ pub fn arcs_from(table: &[u8], nodes: u32, v: u32) -> &[u8]
     if nodes <= v {
         return &table[0..0];
     }
-    let told = fault::check(table, nodes);
-    if told.outcome != outcome::FOUND {
-        return &table[0..0];
+    match fault::check(table, nodes) {
+        Ok(()) => run_of(table, nodes, v),
+        Err(_) => &table[0..0],
     }
-    run_of(table, nodes, v)
 }

@@ -11,11 +11,15 @@ use borrow.Author.Tests.{lt-ltb, le-ltb, ne_eqb}
 use Rattle.lists.proofs.Cases.{cases}
 use Rattle.table.specs.Fault.{table_fault, good}
 use Rattle.table.specs.Run.{run_of, arcs_from}
+use Rattle.table.proofs.RunLaws.{run-le, run-mono}
 use Rattle.second.specs.declared.Direction.TheVariants.{Leaving, Coming}
 use Rattle.second.specs.Second.{wrong_second}
 use Rattle.second.specs.Lookup.{part_by as bytesBy, coming_of, run_by}
 use Rattle.second.proofs.FindLaws.{and-false}
 use Rattle.table_part.specs.Part.{run_part, part_of, coming_part, part_by, run_part_by}
+
+-- the bounds of a run
+pub ruleset run_bounds = (run-le, run-mono)
 
 module _ (nodes : ℕ) (t : List ℕ) (v : ℕ) where
   pub part-run : table_fault nodes t ≡ good → v < nodes → part_of nodes t v ≡ run_part t v

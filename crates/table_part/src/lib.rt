@@ -13,23 +13,43 @@ const COMING: u32 = 1;
 
 // A part of a table: the place of its first byte, and its number of bytes.
 #[repr(C)]
-#[derive(Drop)]
+#[derive(Clone, Copy, Debug, PartialEq, Eq)]
 pub struct Part {
     pub place: usize,
     pub bytes: usize,
 }
 
+impl Part {
+    ghost use Rattle.std.specs.Prelude.{◌≡◌, ◌-◌, ◌*◌, ◌≤◌, ◌<◌, ◌^◌};
+    ghost use Rattle.table.specs.Table.{record_bytes};
+
+    const EMPTY: Part = Part { place: 0, bytes: 0 };
+
+    // The records from number `from` up to `to`.
+    fn of_records(from: usize, to: usize) -> Part
+        requires { (from ≤ to) × (to * record_bytes < 2 ^ 64) }
+        ensures { result ≡ record {
+          place = from * record_bytes;
+          bytes = to * record_bytes - from * record_bytes;
+        } }
+    {
+        let place = from * table::arc::RECORD;
+        Part {
+            place,
+            bytes: to * table::arc::RECORD - place,
+        }
+    }
+}
+
 // The run of node v in a good table, by its place.
+#[tactic(auto, using(crate::proofs::PartLaws::run_bounds), unfolding(crate::specs::Part::run_part))]
 fn run_part(table: &[u8], nodes: u32, v: u32) -> Part
     requires { (table_fault nodes table.now ≡ good) × (v < nodes) }
     ensures { result ≡ run_part table.now v }
 {
-    let place = table::run::run_start(table, nodes, v) * table::arc::RECORD;
-    let end = table::run::run_start(table, nodes, v + 1) * table::arc::RECORD;
-    Part {
-        place: place,
-        bytes: end - place,
-    }
+    let from = table::run::run_start(table, nodes, v);
+    let to = table::run::run_start(table, nodes, v + 1);
+    Part::of_records(from, to)
 }
 
 // Where the arcs that leave node v stand in the table; an empty part where the table has a fault or
@@ -37,43 +57,36 @@ fn run_part(table: &[u8], nodes: u32, v: u32) -> Part
 pub fn arcs_from(table: &[u8], nodes: u32, v: u32) -> Part
     ensures { result ≡ part_of nodes table.now v }
 {
-    if nodes <= v {
-        return Part { place: 0, bytes: 0 };
-    }
-    let told = table::fault::check(table, nodes);
-    if told.outcome != outcome::FOUND {
-        return Part { place: 0, bytes: 0 };
+    if nodes <= v || table::fault::check(table, nodes).is_err() {
+        return Part::EMPTY;
     }
     run_part(table, nodes, v)
 }
 
 // The run of the arcs that come to v in a right second table, by its place.
+#[tactic(auto, using(second::proofs::ComingLaws::coming_bounds), unfolding(crate::specs::Part::coming_part))]
 fn coming_part(table: &[u8], second: &[u8], nodes: u32, v: u32) -> Part
     requires { (table_fault nodes table.now ≡ good)
         × (wrong_second nodes table.now second.now ≡ false) × (v < nodes) }
     ensures { result ≡ coming_part second.now v }
 {
-    let from = second::coming_start(table, second, nodes, v) * table::arc::RECORD;
-    let to = second::coming_start(table, second, nodes, v + 1) * table::arc::RECORD;
-    Part {
-        place: from,
-        bytes: to - from,
-    }
+    let from = second::coming_start(table, second, nodes, v);
+    let to = second::coming_start(table, second, nodes, v + 1);
+    Part::of_records(from, to)
 }
 
 // The run of v by direction, of a good table and a right second one; empty for another direction.
+#[tactic(auto, unfolding(crate::specs::Part::part_by))]
 fn part_by(table: &[u8], second: &[u8], nodes: u32, direction: u32, v: u32) -> Part
     requires { (table_fault nodes table.now ≡ good)
         × (wrong_second nodes table.now second.now ≡ false) × (v < nodes) }
     ensures { result ≡ part_by direction table.now second.now v }
 {
-    if direction == LEAVING {
-        return run_part(table, nodes, v);
+    match direction {
+        LEAVING => run_part(table, nodes, v),
+        COMING => coming_part(table, second, nodes, v),
+        _ => Part::EMPTY,
     }
-    if direction == COMING {
-        return coming_part(table, second, nodes, v);
-    }
-    Part { place: 0, bytes: 0 }
 }
 
 // Where the run of a node stands in the one table or the other, by direction; an empty part where
@@ -82,15 +95,11 @@ pub fn run(table: &[u8], second: &[u8], nodes: u32, direction: u32, node: u32) -
     ensures { result
         ≡ run_part_by nodes table.now second.now direction node }
 {
-    if nodes <= node {
-        return Part { place: 0, bytes: 0 };
-    }
-    let told = table::fault::check(table, nodes);
-    if told.outcome != outcome::FOUND {
-        return Part { place: 0, bytes: 0 };
-    }
-    if second::wrong(table, second, nodes) {
-        return Part { place: 0, bytes: 0 };
+    if nodes <= node
+        || table::fault::check(table, nodes).is_err()
+        || second::wrong(table, second, nodes)
+    {
+        return Part::EMPTY;
     }
     part_by(table, second, nodes, direction, node)
 }

@@ -8,10 +8,10 @@ ghost use Rattle.test_cells.specs.Bounded.{sum, product, part};
 pub fn get(s: &[usize], i: usize) -> usize
     ensures { result ≡ get_or s.now i 0 }
 {
-    if i < s.len() { s[i] } else { 0 }
+    s.get(i).copied().unwrap_or(0)
 }
 
-pub fn put(s: &mut [usize], i: usize, v: usize)
+pub fn put<T: Copy>(s: &mut [T], i: usize, v: T)
     ensures { s.new ≡ set s.old i v }
 {
     if i < s.len() {
@@ -22,37 +22,29 @@ pub fn put(s: &mut [usize], i: usize, v: usize)
 pub fn byte(s: &[u8], i: usize) -> u8
     ensures { result ≡ get_or s.now i 0 }
 {
-    if i < s.len() { s[i] } else { 0 }
+    s.get(i).copied().unwrap_or(0)
 }
 
-pub fn put_byte(s: &mut [u8], i: usize, v: u8)
-    ensures { s.new ≡ set s.old i v }
-{
-    if i < s.len() {
-        s[i] = v;
-    }
-}
-
+#[tactic(auto, unfolding(crate::specs::Bounded::sum))]
 pub fn add(a: usize, b: usize) -> usize
     ensures { result ≡ sum a b }
 {
-    if a < 1099511627776 {
-        if b < 1099511627776 {
-            return a + b;
-        }
+    if a < 1099511627776 && b < 1099511627776 {
+        a + b
+    } else {
+        1099511627776
     }
-    1099511627776
 }
 
+#[tactic(auto, unfolding(crate::specs::Bounded::product))]
 pub fn mul(a: usize, b: usize) -> usize
     ensures { result ≡ product a b }
 {
-    if a < 4294967296 {
-        if b < 4294967296 {
-            return a * b;
-        }
+    if a < 4294967296 && b < 4294967296 {
+        a * b
+    } else {
+        18446744073709551615
     }
-    18446744073709551615
 }
 
 // Cell j of row i, where a row has w cells.
@@ -73,18 +65,13 @@ pub fn pick(test: bool, yes: usize, no: usize) -> usize
 pub fn less_one(x: usize) -> usize
     ensures { result ≡ x - 1 }
 {
-    if x == 0 { 0 } else { x - 1 }
+    x.saturating_sub(1)
 }
 
 // The bytes from i up to e; none where there are no such.
+#[tactic(auto, unfolding(crate::specs::Bounded::part))]
 pub fn between(s: &[u8], i: usize, e: usize) -> &[u8]
     ensures { result.now ≡ part s.now i e }
 {
-    if e < i {
-        return &s[0..0];
-    }
-    if s.len() < e {
-        return &s[0..0];
-    }
-    &s[i..e]
+    s.get(i..e).unwrap_or(&[])
 }

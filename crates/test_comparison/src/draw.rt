@@ -1,10 +1,11 @@
 // Queries and tables. A number of a case is settled by the number of the case and of the draw.
-use crate::cells;
+use crate::own;
+use test_draw::cells;
+use test_draw::draw::{below, either, once_in, rest};
+use test_draw::drawn::{greatest, street};
 
 // The draws of a case: those of the query, from FIRST on those of each arc, and from PAIR on those
 // of two arcs of one road.
-const DRAWS: usize = 256;
-
 const FIRST: usize = 32;
 
 const OF_ARC: usize = 16;
@@ -38,42 +39,12 @@ const ARC_NUMBERS: usize = 7;
 
 const ROAD_MANNERS: usize = 8;
 
-fn next(x: usize) -> usize {
-    let y = x % 2147483648;
-    (y * 1103515245 + 12345) % 2147483648
-}
-
-// The middle of the square: draws that only `next` parts would stand in a fixed relation.
-fn middle(x: usize) -> usize {
-    let y = x % 2147483648;
-    test_cells::mul(y, y) / 32768 % 2147483648
-}
-
-fn rest(x: usize, n: usize) -> usize {
-    if n == 0 { 0 } else { x % n }
-}
-
-// A number below n.
-fn below(case: usize, draw: usize, n: usize) -> usize {
-    let x = test_cells::place(case, DRAWS, draw);
-    rest(middle(next(middle(next(x)))) / 65536, n)
-}
-
-// One time in n.
-fn once_in(case: usize, draw: usize, n: usize) -> bool {
-    below(case, draw, n) == 0
-}
-
 fn nodes(case: usize) -> usize {
-    let few = below(case, 1, 2);
-    let more = test_cells::add(below(case, 1, 4), 3);
-    test_cells::pick(once_in(case, 0, 60), few, more)
+    either(case, 0, 60, 0..2, 3..7)
 }
 
 fn records(case: usize) -> usize {
-    let few = below(case, 3, 6);
-    let more = test_cells::add(below(case, 3, 7), 6);
-    test_cells::pick(once_in(case, 2, 20), few, more)
+    either(case, 2, 20, 0..6, 6..13)
 }
 
 fn routes(case: usize) -> usize {
@@ -158,25 +129,24 @@ fn goal(case: usize) -> usize {
     other(case, 24, below(case, 23, n), n)
 }
 
-// Cell i of the case, but for the arcs.
-fn asked(case: usize, i: usize) -> usize {
-    match i {
-        cells::NODES => nodes(case),
-        cells::ARC_COUNT => records(case),
-        cells::START => below(case, 23, nodes(case)),
-        cells::GOAL => goal(case),
-        cells::ROUTES => routes(case),
-        cells::THRESHOLD_A => numerator(case),
-        cells::THRESHOLD_B => denominator(case),
-        cells::ROOM => room(case),
-        cells::WORDS => words(case),
-        cells::SUMMARIES => summaries(case),
-        cells::ODD_BYTES => odd_bytes(case),
-        cells::CLOSURES => manner(case),
-        cells::CLOSURE_BYTES => closure_bytes(case),
-        cells::ODD_LABEL => below(case, 26, 128),
-        _ => 0,
-    }
+// The case but for the arcs.
+fn asked(number: usize) -> own::Cells {
+    let mut case = [0usize; own::CELLS];
+    case[cells::NODES] = nodes(number);
+    case[cells::ARC_COUNT] = records(number);
+    case[cells::START] = below(number, 23, nodes(number));
+    case[cells::GOAL] = goal(number);
+    case[cells::ROUTES] = routes(number);
+    case[cells::THRESHOLD_A] = numerator(number);
+    case[cells::THRESHOLD_B] = denominator(number);
+    case[cells::ROOM] = room(number);
+    case[cells::WORDS] = words(number);
+    case[cells::SUMMARIES] = summaries(number);
+    case[cells::ODD_BYTES] = odd_bytes(number);
+    case[cells::CLOSURES] = manner(number);
+    case[cells::CLOSURE_BYTES] = closure_bytes(number);
+    case[own::ODD_LABEL] = below(number, 26, 128);
+    case
 }
 
 // The start node after `from`: the same one or the next.
@@ -203,13 +173,6 @@ fn length(case: usize, draw: usize) -> usize {
     test_cells::pick(once_in(case, test_cells::add(draw, 8), 200), wrong, right)
 }
 
-// One number for both directions between two nodes.
-fn street(from: usize, to: usize) -> usize {
-    let low = test_cells::pick(from < to, from, to);
-    let high = test_cells::pick(from < to, to, from);
-    test_cells::add(test_cells::place(high, 8, low), 1)
-}
-
 // 1, 2 ^ 8, 2 ^ 16 or 2 ^ 24: numbers that are told apart by all four bytes only.
 fn one_byte(x: usize) -> usize {
     match x {
@@ -218,14 +181,6 @@ fn one_byte(x: usize) -> usize {
         2 => 65536,
         _ => 16777216,
     }
-}
-
-// One of the three greatest numbers, or 0.
-fn greatest(x: usize) -> usize {
-    if x == 0 {
-        return 0;
-    }
-    if x < 4 { 4294967296 - x } else { 0 }
 }
 
 // One number for two arcs that are drawn, and 0 for the others.
@@ -278,7 +233,7 @@ fn of_arc(case: usize, i: usize, j: usize, from: usize) -> usize {
     }
 }
 
-fn arcs(cells: &mut cells::Cells, case: usize) {
+fn arcs(cells: &mut [usize], case: usize) {
     let count = test_cells::mul(records(case), cells::ARC);
     let mut from = 0;
     let mut closed = 0;
@@ -290,30 +245,14 @@ fn arcs(cells: &mut cells::Cells, case: usize) {
         let number = of_arc(case, i, j, from);
         let closes = (j == cells::CLOSED) & (number == 1);
         closed = test_cells::add(closed, closes as usize);
-        cells::put(cells, test_cells::add(cells::ARCS, c), number);
+        test_cells::put(cells, test_cells::add(cells::ARCS, c), number);
     }
-    cells::put(cells, cells::CLOSED_ARCS, closed);
+    test_cells::put(cells, own::CLOSED_ARCS, closed);
 }
 
 // A query and its table.
-pub(crate) fn case(number: usize) -> cells::Cells {
-    let mut case = [0usize; cells::CELLS];
-    for i in 0..cells::CELLS {
-        case[i] = asked(number, i);
-    }
+pub(crate) fn case(number: usize) -> own::Cells {
+    let mut case = asked(number);
     arcs(&mut case, number);
     case
-}
-
-// The case with the table of zeros in place of its road numbers.
-pub(crate) fn without_roads(case: cells::Cells) -> cells::Cells {
-    let mut plain = case;
-    for i in 0..cells::MOST_ARCS {
-        cells::put(
-            &mut plain,
-            test_cells::place(i, cells::ARC, cells::ARCS + cells::ROAD),
-            0,
-        );
-    }
-    plain
 }

@@ -3,12 +3,14 @@
 // difference in full.
 #![tactic(auto)]
 
-mod cells;
 mod draw;
 mod library;
 mod lister;
+mod own;
 mod report;
 mod texts;
+
+use test_draw::{cells, damage};
 
 const CASES: usize = 6000;
 
@@ -33,58 +35,54 @@ const TOLD_APART: usize = 37;
 
 const UNCOUNTED: usize = 38;
 
-// One more in cell i.
-fn add_one(tally: &mut cells::Cells, i: usize) {
-    let n = cells::get(tally, i);
-    cells::put(tally, i, test_cells::add(n, 1));
-}
-
 // What is due, and whether it was found.
-fn count(tally: &mut cells::Cells, due: &cells::Cells, agreed: bool) {
-    let outcome = cells::get(due, cells::OUTCOME);
-    let round = test_cells::add(REFUSED, cells::get(due, cells::NUMBER));
-    add_one(tally, outcome);
-    add_one(tally, test_cells::pick(outcome == 11, round, UNCOUNTED));
-    add_one(tally, test_cells::pick(agreed, AGREED, DIFFERENT));
+fn count(tally: &mut [usize], due: &[usize], agreed: bool) {
+    let outcome = test_cells::get(due, cells::OUTCOME);
+    let round = test_cells::add(REFUSED, test_cells::get(due, cells::NUMBER));
+    cells::count(tally, outcome, 1);
+    cells::count(tally, test_cells::pick(outcome == 11, round, UNCOUNTED), 1);
+    cells::count(tally, test_cells::pick(agreed, AGREED, DIFFERENT), 1);
 }
 
 // What kind of case it is.
-fn count_case(tally: &mut cells::Cells, case: &cells::Cells, reached: bool, in_turn: bool) {
-    let closed = reached & (cells::get(case, cells::CLOSED_ARCS) > 0);
-    let both = cells::get(case, cells::CLOSURES) == draw::ALL_OPEN;
-    add_one(tally, test_cells::pick(closed, CLOSED, UNCOUNTED));
-    add_one(tally, test_cells::pick(both, BOTH, UNCOUNTED));
-    add_one(tally, test_cells::pick(in_turn, IN_TURN, UNCOUNTED));
+fn count_case(tally: &mut [usize], case: &[usize], reached: bool, in_turn: bool) {
+    let closed = reached & (test_cells::get(case, own::CLOSED_ARCS) > 0);
+    let both = test_cells::get(case, cells::CLOSURES) == draw::ALL_OPEN;
+    cells::count(tally, test_cells::pick(closed, CLOSED, UNCOUNTED), 1);
+    cells::count(tally, test_cells::pick(both, BOTH, UNCOUNTED), 1);
+    cells::count(tally, test_cells::pick(in_turn, IN_TURN, UNCOUNTED), 1);
 }
 
 // Where rounds are reached with road numbers: whether an answer or a label count is another than
 // with zeros.
-fn count_roads(tally: &mut cells::Cells, case: cells::Cells, due: &cells::Cells) {
-    let plain = draw::without_roads(case);
-    if !cells::same(&case, &plain) & cells::reached(due) {
+fn count_roads(tally: &mut [usize], case: own::Cells, due: &[usize]) {
+    let mut plain = case;
+    cells::clear_roads(&mut plain);
+    if plain != case && own::reached(due) {
         let other = lister::answer(&plain);
-        add_one(tally, NUMBERED);
-        add_one(
+        cells::count(tally, NUMBERED, 1);
+        cells::count(
             tally,
-            test_cells::pick(cells::same(due, &other), UNCOUNTED, TOLD_APART),
+            test_cells::pick(due == &other[..], UNCOUNTED, TOLD_APART),
+            1,
         );
     }
 }
 
 // Does the library give what is due, with closures lent or without? The first that differs is
 // printed.
-fn agrees(case: &cells::Cells, lent: bool, due: &cells::Cells, first: bool) -> bool {
-    let got = library::answer(case, lent, cells::reached(due));
-    let same = cells::same(due, &got);
-    if first & !same {
-        report::case(case, due, &got);
+fn agrees(case: &[usize], lent: bool, due: &[usize], first: bool) -> bool {
+    let got = library::answer(case, lent, own::reached(due));
+    let same = due == &got[..];
+    if first && !same {
+        test_draw::report::difference(case, due, &got);
     }
     same
 }
 
 // The same of a case: where closures are lent and all arcs open, both with and without.
-fn agree(case: &cells::Cells, due: &cells::Cells, first: bool) -> bool {
-    let manner = cells::get(case, cells::CLOSURES);
+fn agree(case: &[usize], due: &[usize], first: bool) -> bool {
+    let manner = test_cells::get(case, cells::CLOSURES);
     let agreed = agrees(case, manner > 0, due, first);
     if agreed & (manner == draw::ALL_OPEN) {
         agrees(case, false, due, first)
@@ -93,12 +91,12 @@ fn agree(case: &cells::Cells, due: &cells::Cells, first: bool) -> bool {
     }
 }
 
-fn one(tally: &mut cells::Cells, number: usize) {
+fn one(tally: &mut [usize], number: usize) {
     let case = lister::fitted(draw::case(number));
     let due = lister::answer(&case);
-    let agreed = agree(&case, &due, cells::get(tally, DIFFERENT) == 0);
+    let agreed = agree(&case, &due, test_cells::get(tally, DIFFERENT) == 0);
     count(tally, &due, agreed);
-    count_case(tally, &case, cells::reached(&due), draw::in_turn(number));
+    count_case(tally, &case, own::reached(&due), draw::in_turn(number));
     count_roads(tally, case, &due);
 }
 
@@ -111,48 +109,52 @@ fn line(name: &[u8], n: usize, v: usize) {
 }
 
 // A line for each number from `first` up to `end`, whose cells begin at `at`.
-fn lines(name: &[u8], tally: &cells::Cells, at: usize, first: usize, end: usize) {
+fn lines(name: &[u8], tally: &[usize], at: usize, first: usize, end: usize) {
     for i in first..end {
-        line(name, i, cells::get(tally, test_cells::add(at, i)));
+        line(name, i, test_cells::get(tally, test_cells::add(at, i)));
     }
 }
 
-fn all() -> cells::Cells {
-    let mut tally = [0usize; cells::CELLS];
+fn all() -> own::Cells {
+    let mut tally = [0usize; own::CELLS];
     for i in 0..CASES {
         one(&mut tally, i);
     }
     tally
 }
 
-fn show(tally: &cells::Cells) {
-    line(b"agreed, of ", CASES, cells::get(tally, AGREED));
+fn show(tally: &[usize]) {
+    line(b"agreed, of ", CASES, test_cells::get(tally, AGREED));
     lines(b"outcome ", tally, 0, 0, OUTCOMES);
     lines(b"outcome 11 in round ", tally, REFUSED, 1, 13);
-    line(b"thresholds in turn, of ", 1000, cells::get(tally, IN_TURN));
+    line(
+        b"thresholds in turn, of ",
+        1000,
+        test_cells::get(tally, IN_TURN),
+    );
     line(
         b"rounds reached with closed arcs, of ",
         CASES,
-        cells::get(tally, CLOSED),
+        test_cells::get(tally, CLOSED),
     );
     line(
         b"all arcs open, asked with and without closures, of ",
         CASES,
-        cells::get(tally, BOTH),
+        test_cells::get(tally, BOTH),
     );
-    let numbered = cells::get(tally, NUMBERED);
+    let numbered = test_cells::get(tally, NUMBERED);
     line(b"rounds reached with road numbers, of ", CASES, numbered);
     line(
         b"an answer or a label count other than with zeros, of ",
         numbered,
-        cells::get(tally, TOLD_APART),
+        test_cells::get(tally, TOLD_APART),
     );
 }
 
 fn damaged(text: &[u8]) {
     line(
         b"damaged texts agreed, of ",
-        test_cells::mul(text.len(), texts::DAMAGES),
+        damage::texts(text, texts::KINDS),
         texts::all(text),
     );
 }

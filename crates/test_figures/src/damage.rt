@@ -3,16 +3,14 @@ use crate::text;
 
 // The text with s in place of its bytes i up to e, which is damage to byte i.
 fn splice(name: &[u8], t: &[u8], i: usize, e: usize, s: &[u8]) {
-    if i <= e {
-        if e <= t.len() {
-            let mut d = [0u8; text::MOST];
-            let n = text::append(&mut d, 0, &t[0..i]);
-            let m = text::append(&mut d, n, s);
-            let l = text::append(&mut d, m, &t[e..]);
-            io::write_all(1, name);
-            io::print_decimal(1, i as u64);
-            text::show(b"", &d, l);
-        }
+    if i <= e && e <= t.len() {
+        let mut d = [0u8; text::MOST];
+        let n = text::append(&mut d, 0, &t[0..i]);
+        let m = text::append(&mut d, n, s);
+        let l = text::append(&mut d, m, &t[e..]);
+        io::write_all(1, name);
+        io::print_decimal(1, i as u64);
+        text::show(b"", &d, l);
     }
 }
 
@@ -31,9 +29,7 @@ fn at(t: &[u8], i: usize) {
 }
 
 pub(crate) fn all(t: &[u8]) {
-    let mut i = 0;
-    while i < t.len() {
+    for i in 0..t.len() {
         at(t, i);
-        i += 1;
     }
 }

@@ -1,9 +1,13 @@
 // Document 01's figures for the road table: of each table the outcome and the number beside it, and
 // of table T the parts that hold the arcs of each node.
+use outcome::{Outcome, Told};
 
 // The table's outcome, and the number beside it.
 fn outcome(name: &[u8], t: &[u8], nodes: u32) {
-    let told = table::fault::check(t, nodes);
+    let told = match table::fault::check(t, nodes) {
+        Ok(()) => Outcome::Found.plain(),
+        Err(refusal) => Told::from(refusal),
+    };
     io::write_all(1, name);
     io::write_all(1, b": ");
     io::print_decimal(1, told.outcome as u64);
@@ -27,11 +31,8 @@ fn part(name: &[u8], t: &[u8], nodes: u32, v: u32) {
 
 // Every record of the table: an arc from node 0 to node 1.
 fn put_arcs(t: &mut [u8]) {
-    let n = t.len() / table::arc::RECORD;
-    let mut i = 0;
-    while i < n {
+    for i in 0..t.len() / table::arc::RECORD {
         table::arc::put(t, i, 0, 1, 1);
-        i += 1;
     }
 }
 
@@ -80,7 +81,7 @@ fn many_records() {
 fn byte(name: &[u8], at: usize, v: u8) {
     let mut t = [0u8; 16];
     table::arc::put(&mut t, 0, 0, 1, 1000000);
-    test_cells::put_byte(&mut t, at, v);
+    test_cells::put(&mut t, at, v);
     outcome(name, &t, 4);
 }
 
@@ -101,7 +102,7 @@ fn both(name: &[u8], from: u32, to: u32, len: u32, road: u8) {
     let mut t = [0u8; 32];
     table::arc::put(&mut t, 0, 1, 2, 1);
     table::arc::put(&mut t, 1, from, to, len);
-    test_cells::put_byte(&mut t, 28, road);
+    test_cells::put(&mut t, 28, road);
     outcome(name, &t, 4);
 }
 
@@ -117,7 +118,7 @@ fn two_faults() {
 fn two(name: &[u8], road: u8, from: u32, to: u32) {
     let mut t = [0u8; 32];
     table::arc::put(&mut t, 0, 1, 2, 1);
-    test_cells::put_byte(&mut t, 12, road);
+    test_cells::put(&mut t, 12, road);
     table::arc::put(&mut t, 1, from, to, 1);
     outcome(name, &t, 4);
 }

@@ -66,11 +66,8 @@ fn deeper(sheet: &mut sheet::Sheet, row: usize, arc: usize, next: usize, left: u
 // after the last.
 #[cycle(deeper_spread)]
 fn spread(sheet: &mut sheet::Sheet, row: usize, next: usize, left: usize) -> usize {
-    let arcs = sheet::MOST_ARCS;
     let mut end = next;
-    let mut arc = 0;
-    while arc < arcs {
-        arc += 1;
+    for arc in 1..=sheet::MOST_ARCS {
         end = deeper(sheet, row, arc, end, left);
     }
     end

@@ -1,5 +1,6 @@
 // The refusals in their order. An outcome and the number beside it are told as one number: TOLD
 // times the outcome, and one more than the number, or 0 where there is none.
+// One number, since a cell of the sheet, whose memory is fixed, holds one: a pair would take two cells.
 use crate::sheet;
 
 pub(crate) const TOLD: usize = 65536;
@@ -30,31 +31,20 @@ fn record_fault(sheet: &sheet::Sheet, at: usize) -> usize {
     test_cells::pick((from >= nodes) | (to >= nodes), 2, fault)
 }
 
-// The lowest faulty record, or 0.
-fn faulty(sheet: &sheet::Sheet) -> usize {
+// The lowest faulty record.
+fn faulty(sheet: &sheet::Sheet) -> Option<usize> {
     let records = sheet::get(sheet, sheet::ARC_COUNT);
-    let mut at = 0;
-    while at < records {
-        at += 1;
-        if record_fault(sheet, at) > 0 {
-            return at;
-        }
-    }
-    0
+    (0..records)
+        .map(|before| before + 1)
+        .find(|&at| record_fault(sheet, at) > 0)
 }
 
 // Are closure bytes lent of another number than the arcs, or is one neither 0 nor 1?
 fn misclosed(sheet: &sheet::Sheet) -> bool {
     let bytes = sheet::get(sheet, sheet::CLOSURE_BYTES);
-    let mut at = 0;
-    while at < bytes {
-        at += 1;
-        if sheet::of_arc(sheet, at, sheet::CLOSED) > 1 {
-            return true;
-        }
-    }
     let lent = sheet::get(sheet, sheet::CLOSURES) > 0;
-    lent & (bytes != sheet::get(sheet, sheet::ARC_COUNT))
+    (0..bytes).any(|before| sheet::of_arc(sheet, before + 1, sheet::CLOSED) > 1)
+        || (lent && bytes != sheet::get(sheet, sheet::ARC_COUNT))
 }
 
 // What is wrong with the rest of the call, the lowest of 7 to 10, or 0.
@@ -82,9 +72,11 @@ fn call_fault(sheet: &sheet::Sheet) -> usize {
 pub(crate) fn refusal(sheet: &sheet::Sheet) -> usize {
     let arcs = sheet::get(sheet, sheet::ARC_COUNT);
     let nodes = sheet::get(sheet, sheet::NODES);
-    let at = faulty(sheet);
     let rest = test_cells::pick(misclosed(sheet), 15, call_fault(sheet));
-    let fault = test_cells::pick(at > 0, record_fault(sheet, at), rest);
+    let (fault, at) = match faulty(sheet) {
+        Some(at) => (record_fault(sheet, at), at),
+        None => (rest, 0),
+    };
     let size = (nodes < 1) | (nodes > MOST_NODES) | (sheet::get(sheet, sheet::ODD_BYTES) > 0);
     let told = test_cells::pick(size, NO_TABLE, test_cells::place(fault, TOLD, at));
     let bad = sheet::get(sheet, sheet::BAD_LINE);

@@ -155,10 +155,8 @@ fn due(sheet: &sheet::Sheet) -> usize {
 
 // The rounds, up to the first that has no answer.
 pub(crate) fn run(sheet: &mut sheet::Sheet) -> &mut sheet::Sheet {
-    let due = due(sheet);
-    let mut round = 0;
-    while round < due {
-        round += 1;
+    for found in 0..due(sheet) {
+        let round = found + 1;
         if turn(sheet, round) == 0 {
             return sheet;
         }

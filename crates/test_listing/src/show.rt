@@ -99,9 +99,9 @@ pub(crate) fn print(out: &mut [u8], sheet: &sheet::Sheet) -> usize {
     let mut at = 0;
     for i in 0..glyphs {
         let glyph = glyph(sheet, told, i);
-        test_cells::put_byte(out, at, glyph);
+        test_cells::put(out, at, glyph);
         at = test_cells::add(at, (glyph > 0) as usize);
     }
-    test_cells::put_byte(out, at, b'\n');
+    test_cells::put(out, at, b'\n');
     test_cells::add(at, 1)
 }

@@ -1,6 +1,7 @@
 // The greedy pair: the first route, and the first that shares no arc with it. It is the answer to
 // the query for two routes at the threshold 0/1 without road numbers, which test_listing gives.
-use crate::cells;
+use crate::own;
+use test_draw::cells;
 
 // The outcome and the number beside it, and the total length of the two, 0 where there are not two.
 #[derive(Drop)]
@@ -10,16 +11,9 @@ pub(crate) struct Greedy {
     pub(crate) total: usize,
 }
 
-fn without_roads(case: cells::Cells) -> cells::Cells {
+pub(crate) fn pair(case: own::Cells) -> Greedy {
     let mut plain = case;
-    for i in 0..cells::MOST_ARCS {
-        cells::put(&mut plain, cells::place(i, cells::ROAD), 0);
-    }
-    plain
-}
-
-pub(crate) fn pair(case: cells::Cells) -> Greedy {
-    let plain = without_roads(case);
+    cells::clear_roads(&mut plain);
     let mut slots = [0usize; 16];
     let mut sums = [0usize; 6];
     let told = test_listing::answer(&plain, &mut slots, &mut sums);

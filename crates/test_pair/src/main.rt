@@ -4,15 +4,15 @@
 // was of no use, how many differed, and the first difference in full.
 #![tactic(auto)]
 
-mod cells;
 mod draw;
 mod due;
 mod greedy;
 mod library;
+mod own;
 mod pairs;
-mod report;
-mod routes;
 mod spoil;
+
+use test_draw::{cells, report, routes};
 
 const DRAWS: usize = 5000;
 
@@ -25,31 +25,28 @@ const LINES: usize = DIFFERENT + 1;
 
 // What is known of a call: the outcome due; where it is not refused the least total, the routes,
 // the rows listed, and the total of the greedy pair.
-type Facts = [usize; 5];
-
-const OUTCOME: usize = 0;
-
-const LEAST: usize = 1;
-
-const ROUTES: usize = 2;
-
-const ROWS: usize = 3;
-
-const GREEDY: usize = 4;
+#[derive(Clone, Copy, Default)]
+struct Facts {
+    outcome: usize,
+    least: usize,
+    routes: usize,
+    rows: usize,
+    greedy: usize,
+}
 
 // Count i of a call.
-fn count(facts: &Facts, i: usize) -> usize {
-    let outcome = facts[OUTCOME];
-    let pair = facts[LEAST] > 0;
+fn count(facts: Facts, i: usize) -> usize {
+    let outcome = facts.outcome;
+    let pair = facts.least > 0;
     match i {
         0 => 1,
         1 => (outcome == 0) as usize,
         2 => (outcome == 21) as usize,
-        3 => ((outcome == 21) & (facts[ROUTES] > 1)) as usize,
-        4 => (pair & (facts[GREEDY] == 0)) as usize,
-        5 => (pair & (facts[GREEDY] > facts[LEAST])) as usize,
-        6 => facts[ROUTES],
-        7 => (facts[ROWS] >= routes::MOST_ROWS) as usize,
+        3 => ((outcome == 21) & (facts.routes > 1)) as usize,
+        4 => (pair & (facts.greedy == 0)) as usize,
+        5 => (pair & (facts.greedy > facts.least)) as usize,
+        6 => facts.routes,
+        7 => (facts.rows >= routes::MOST_ROWS) as usize,
         8 => (outcome == 13) as usize,
         9 => (outcome == 2) as usize,
         10 => (outcome == 3) as usize,
@@ -61,96 +58,64 @@ fn count(facts: &Facts, i: usize) -> usize {
     }
 }
 
-fn counts(tally: &mut cells::Cells, facts: &Facts) {
+fn counts(tally: &mut [usize], facts: Facts) {
     for i in 0..COUNTS {
         cells::count(tally, i, count(facts, i));
     }
 }
 
-// Counts a call that gave something else than is due; the first is printed.
-fn compare(tally: &mut cells::Cells, case: &cells::Cells, due: &cells::Cells, got: &cells::Cells) {
-    let same = cells::same(due, got);
-    if !same & (cells::get(tally, DIFFERENT) == 0) {
-        report::difference(case, due, got);
-    }
-    cells::count(tally, DIFFERENT, !same as usize);
-}
-
-// A call that is to be refused.
-fn refused(tally: &mut cells::Cells, case: &cells::Cells, outcome: usize, number: usize) {
-    let got = library::answer(case, true);
-    let due = due::refusal(outcome, number);
-    let mut facts = [0usize; 5];
-    facts[OUTCOME] = outcome;
-    compare(tally, case, &due, &got);
-    counts(tally, &facts);
-}
-
-// A call that is to look for the pair, whose greedy pair has that total.
-fn looked_for(tally: &mut cells::Cells, case: &cells::Cells, greedy: usize) {
+// What is known of a call that is to look for the pair, whose greedy pair has that total, and what is
+// due to it.
+fn looked_for(case: &[usize], got: &[usize], greedy: usize) -> (Facts, own::Cells) {
     let rows = routes::list(case);
     let least = pairs::least(&rows, case);
-    let got = library::answer(case, false);
-    let due = due::beside(case, &rows, &got, least);
-    let mut facts = [0usize; 5];
-    facts[OUTCOME] = cells::get(&due, cells::OUTCOME);
-    facts[LEAST] = least;
-    facts[ROUTES] = pairs::routes(&rows, case);
-    facts[ROWS] = routes::listed(&rows);
-    facts[GREEDY] = greedy;
-    compare(tally, case, &due, &got);
-    counts(tally, &facts);
+    let due = due::beside(case, &rows, got, least);
+    let facts = Facts {
+        outcome: due[cells::OUTCOME],
+        least,
+        routes: pairs::routes(&rows, case),
+        rows: routes::listed(&rows),
+        greedy,
+    };
+    (facts, due)
 }
 
-fn call(tally: &mut cells::Cells, case: cells::Cells) {
+fn call(tally: &mut [usize], case: own::Cells) {
     let greedy = greedy::pair(case);
     let outcome = due::refused(&case, greedy.outcome);
-    if outcome > 0 {
-        refused(tally, &case, outcome, greedy.number);
+    let got = library::answer(&case, outcome > 0);
+    let (facts, due) = if outcome > 0 {
+        let facts = Facts {
+            outcome,
+            ..Facts::default()
+        };
+        (facts, due::refusal(outcome, greedy.number))
     } else {
-        looked_for(tally, &case, greedy.total);
-    }
+        looked_for(&case, &got, greedy.total)
+    };
+    report::compare(tally, DIFFERENT, &case, &due, &got);
+    counts(tally, facts);
 }
 
-fn one(tally: &mut cells::Cells, number: usize) {
+fn one(tally: &mut [usize], number: usize) {
     let case = draw::case(number);
     call(tally, case);
     call(tally, spoil::of(case, number));
 }
 
-fn all() -> cells::Cells {
-    let mut tally = [0usize; cells::CELLS];
+fn all() -> own::Cells {
+    let mut tally = [0usize; own::CELLS];
     for i in 0..DRAWS {
         one(&mut tally, i);
     }
     tally
 }
 
-// Where the line that begins at `from` ends.
-fn line_end(text: &[u8], from: usize) -> usize {
-    for i in from..text.len() {
-        if test_cells::byte(text, i) == b'\n' {
-            return test_cells::add(i, 1);
-        }
-    }
-    text.len()
-}
-
-// Each number of the tally, before its line of the text.
-fn show(tally: &cells::Cells, text: &[u8]) {
-    let mut at = 0;
-    for i in 0..LINES {
-        let end = line_end(text, at);
-        io::print_decimal(1, cells::get(tally, i) as u64);
-        io::write_all(1, test_cells::between(text, at, end));
-        at = end;
-    }
-}
-
 fn main() {
     let tally = all();
-    show(
+    report::show(
         &tally,
+        LINES,
         b" calls
  with outcome 0 due
  with outcome 21 due

@@ -1,21 +1,10 @@
 // All pairs of listed routes that share no arc.
-use crate::{cells, routes};
+use test_draw::routes;
 
-// Is the arc of this step one of the row's?
-fn drives(rows: &routes::Rows, row: usize, step: usize) -> bool {
+fn disjoint(rows: &[usize], row: usize, other: usize) -> bool {
     let count = routes::of_row(rows, row, routes::COUNT);
     for j in 0..count {
-        if routes::step(rows, row, j) == step {
-            return true;
-        }
-    }
-    false
-}
-
-fn disjoint(rows: &routes::Rows, row: usize, other: usize) -> bool {
-    let count = routes::of_row(rows, row, routes::COUNT);
-    for j in 0..count {
-        if drives(rows, other, routes::step(rows, row, j)) {
+        if routes::drives(rows, other, routes::step(rows, row, j)) {
             return false;
         }
     }
@@ -23,7 +12,7 @@ fn disjoint(rows: &routes::Rows, row: usize, other: usize) -> bool {
 }
 
 // The total length of the two rows, or 0 where they are no pair.
-pub(crate) fn total(rows: &routes::Rows, case: &cells::Cells, row: usize, other: usize) -> usize {
+pub(crate) fn total(rows: &[usize], case: &[usize], row: usize, other: usize) -> usize {
     let here = routes::of_row(rows, row, routes::LENGTH);
     let there = routes::of_row(rows, other, routes::LENGTH);
     let both = routes::arrives(rows, case, row) & routes::arrives(rows, case, other);
@@ -40,7 +29,7 @@ fn lesser(x: usize, y: usize) -> usize {
 }
 
 // The least total of the row with one before it, or 0.
-fn least_with(rows: &routes::Rows, case: &cells::Cells, row: usize) -> usize {
+fn least_with(rows: &[usize], case: &[usize], row: usize) -> usize {
     let count = test_cells::pick(routes::arrives(rows, case, row), row, 0);
     let mut least = 0;
     for other in 0..count {
@@ -50,7 +39,7 @@ fn least_with(rows: &routes::Rows, case: &cells::Cells, row: usize) -> usize {
 }
 
 // The least total of a pair, or 0 where there is none.
-pub(crate) fn least(rows: &routes::Rows, case: &cells::Cells) -> usize {
+pub(crate) fn least(rows: &[usize], case: &[usize]) -> usize {
     let count = routes::listed(rows);
     let mut least = 0;
     for row in 0..count {
@@ -60,34 +49,11 @@ pub(crate) fn least(rows: &routes::Rows, case: &cells::Cells) -> usize {
 }
 
 // How many routes there are.
-pub(crate) fn routes(rows: &routes::Rows, case: &cells::Cells) -> usize {
+pub(crate) fn routes(rows: &[usize], case: &[usize]) -> usize {
     let count = routes::listed(rows);
     let mut sum = 0;
     for row in 0..count {
         sum = test_cells::add(sum, routes::arrives(rows, case, row) as usize);
     }
     sum
-}
-
-fn smaller(rows: &routes::Rows, row: usize, other: usize) -> bool {
-    let count = routes::of_row(rows, row, routes::COUNT);
-    for j in 0..count {
-        let here = routes::step(rows, row, j);
-        let there = routes::step(rows, other, j);
-        if here != there {
-            return here < there;
-        }
-    }
-    false
-}
-
-// Rule 3: the length, then the arc numbers from the start.
-pub(crate) fn precedes(rows: &routes::Rows, row: usize, other: usize) -> bool {
-    let here = routes::of_row(rows, row, routes::LENGTH);
-    let there = routes::of_row(rows, other, routes::LENGTH);
-    if here == there {
-        smaller(rows, row, other)
-    } else {
-        here < there
-    }
 }

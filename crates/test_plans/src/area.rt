@@ -85,11 +85,3 @@ pub(crate) fn words_end(words: usize) -> usize
         WORDS_FROM + MOST_WORDS
     }
 }
-
-pub(crate) fn copy(file: &File) -> File {
-    let mut other = [JUNK; FILE];
-    for i in 0..FILE {
-        other[i] = file[i];
-    }
-    other
-}

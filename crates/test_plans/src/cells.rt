@@ -2,6 +2,8 @@
 // of records, for each record which part stands in it, and for each plan its number and its routes.
 // An index past the end reads 0 and stores nothing.
 
+pub(crate) use test_cells::{get, put};
+
 pub(crate) const CELLS: usize = 6144;
 
 pub(crate) type Cells = [usize; CELLS];
@@ -41,16 +43,6 @@ pub(crate) const INDEXES: usize = 15;
 const PLAN: usize = 388;
 
 const ROUTE: usize = 32;
-
-pub(crate) fn get(cells: &Cells, i: usize) -> usize {
-    if i < CELLS { cells[i] } else { 0 }
-}
-
-pub(crate) fn put(cells: &mut Cells, i: usize, value: usize) {
-    if i < CELLS {
-        cells[i] = value;
-    }
-}
 
 pub(crate) fn count(cells: &mut Cells, i: usize) {
     let n = get(cells, i);

@@ -1,17 +1,26 @@
 // A file damaged, and what is then wrong with it, by a count over all records for each.
 use crate::{area, cells, draw};
 
-// The manners: up to COPY one byte is another; a record is as another is; two change places; a
-// record is free; a full part loses its last arc.
-const COPY: usize = 7;
+// The manners: one byte is another; a record is as another is; two change places; a record is free;
+// a full part loses its last arc.
+#[derive(Clone, Copy)]
+enum Manner {
+    Byte,
+    Copy,
+    Exchange,
+    Free,
+    Shorter,
+}
 
-const EXCHANGE: usize = 8;
-
-const FREE: usize = 9;
-
-const SHORTER: usize = 10;
-
-const MANNERS: usize = 12;
+fn manner_of(call: usize) -> Manner {
+    match draw::below(call, 28, 12) {
+        0..=6 => Manner::Byte,
+        7 => Manner::Copy,
+        8 => Manner::Exchange,
+        9 => Manner::Free,
+        _ => Manner::Shorter,
+    }
+}
 
 // The other byte.
 fn another(call: usize, old: u8) -> u8 {
@@ -32,36 +41,32 @@ fn shorter(j: usize, old: u8) -> u8 {
 }
 
 // The record that a byte of record `own` comes from, where a and b are the two of the damage.
-fn source(manner: usize, a: usize, b: usize, own: usize) -> usize {
-    let moved = (manner == COPY) | (manner == EXCHANGE);
-    let back = (manner == EXCHANGE) & (own == b);
-    let other = test_cells::pick(back, a, own);
-    test_cells::pick(moved & (own == a), b, other)
+fn source(manner: Manner, a: usize, b: usize, own: usize) -> usize {
+    match manner {
+        Manner::Copy | Manner::Exchange if own == a => b,
+        Manner::Exchange if own == b => a,
+        _ => own,
+    }
 }
 
 // Byte k of the records of the damaged file.
 fn byte(file: &area::File, call: usize, n: usize, k: usize) -> u8 {
-    let manner = draw::below(call, 28, MANNERS);
+    let manner = manner_of(call);
     let a = draw::below(call, 29, n);
     let own = k / 32;
     let from = source(manner, a, draw::below(call, 27, n), own);
     let old = test_cells::byte(file, test_cells::place(from, 32, area::FROM + k % 32));
-    if (manner == FREE) & (own == a) {
-        return 0;
-    }
-    if (manner >= SHORTER) & (own == a) {
-        return shorter(k % 32, old);
-    }
     let place = test_cells::place(a, 32, draw::below(call, 27, 32));
-    if (manner < COPY) & (k == place) {
-        another(call, old)
-    } else {
-        old
+    match manner {
+        Manner::Free if own == a => 0,
+        Manner::Shorter if own == a => shorter(k % 32, old),
+        Manner::Byte if k == place => another(call, old),
+        _ => old,
     }
 }
 
 pub(crate) fn damaged(file: &area::File, call: usize, n: usize) -> area::File {
-    let mut other = area::copy(file);
+    let mut other = *file;
     let end = test_cells::place(n, 32, area::FROM);
     for i in area::FROM..area::FILE {
         if i < end {
@@ -155,12 +160,7 @@ fn unrelated(file: &area::File, i: usize, n: usize) -> bool {
 
 // Is the file of n records out of form?
 pub(crate) fn wrong(file: &area::File, n: usize) -> bool {
-    let mut wrong = 0;
-    for i in 0..n {
-        let here = misformed(file, i) | unrelated(file, i, n);
-        wrong = test_cells::add(wrong, here as usize);
-    }
-    wrong > 0
+    (0..n).any(|i| misformed(file, i) || unrelated(file, i, n))
 }
 
 // The index of a plan number: where it stands, or else the first without one.

@@ -1,13 +1,13 @@
 // What is asked. A number is settled by the number of the call and of the draw.
 use crate::{area, cells};
 
-pub(crate) const STORE: usize = 0;
-
-pub(crate) const FETCH: usize = 1;
-
-pub(crate) const WITHDRAW: usize = 2;
-
-pub(crate) const COLLECT: usize = 3;
+#[derive(Clone, Copy, PartialEq, Eq)]
+pub(crate) enum Kind {
+    Store,
+    Fetch,
+    Withdraw,
+    Collect,
+}
 
 // The draws of a call; those from ARCS on are the arcs'.
 const DRAWS: usize = 256;
@@ -18,7 +18,7 @@ const ARCS: usize = 64;
 #[derive(Clone, Copy)]
 pub(crate) struct Asked {
     pub call: usize,
-    pub kind: usize,
+    pub kind: Kind,
     pub index: usize,
     pub plan: usize,
     pub routes: usize,
@@ -53,11 +53,15 @@ pub(crate) fn records(call: usize) -> usize {
     )
 }
 
-// Stores and fetches come most often; from 14 on it is a damage.
-pub(crate) fn step(call: usize) -> usize {
-    let x = below(call, 2, 18);
-    let call = test_cells::pick(x < 11, FETCH, test_cells::pick(x < 14, WITHDRAW, COLLECT));
-    test_cells::pick(x < 7, STORE, test_cells::pick(x < 15, call, 4))
+// Stores and fetches come most often; none is a damage.
+pub(crate) fn step(call: usize) -> Option<Kind> {
+    match below(call, 2, 18) {
+        0..=6 => Some(Kind::Store),
+        7..=10 => Some(Kind::Fetch),
+        11..=13 => Some(Kind::Withdraw),
+        14 => Some(Kind::Collect),
+        _ => None,
+    }
 }
 
 // The index of a plan; a second one where a store's is there, or another call's is absent.
@@ -68,43 +72,54 @@ fn index(cells: &cells::Cells, call: usize, store: bool) -> usize {
     test_cells::pick(again, below(call, 23, 7), p)
 }
 
-// What is wrong with a store: from 1 on its routes, its width or its area, and in its words an empty
-// route, a number that is no arc's, no arc before an arc, or an arc after none. From 11 on nothing.
-fn fault(call: usize) -> usize {
-    below(call, 4, 44)
+// What is wrong with a store: its routes, its width or its area, and in its words an empty route, a
+// number that is no arc's, no arc before an arc, or an arc after none.
+#[derive(Clone, Copy)]
+enum Fault {
+    NoRoutes,
+    Thirteen,
+    TooWide,
+    WordMore,
+    WordLess,
+    NoWords,
+    Empty,
+    NoArc,
+    Early,
+    Late,
 }
 
-const NO_ROUTES: usize = 1;
-
-const THIRTEEN: usize = 2;
-
-const TOO_WIDE: usize = 3;
-
-const WORD_MORE: usize = 4;
-
-const WORD_LESS: usize = 5;
-
-const NO_WORDS: usize = 6;
-
-const EMPTY: usize = 7;
-
-const NO_ARC: usize = 8;
-
-const EARLY: usize = 9;
-
-const LATE: usize = 10;
+// Of most stores nothing.
+fn fault_of(call: usize) -> Option<Fault> {
+    match below(call, 4, 44) {
+        1 => Some(Fault::NoRoutes),
+        2 => Some(Fault::Thirteen),
+        3 => Some(Fault::TooWide),
+        4 => Some(Fault::WordMore),
+        5 => Some(Fault::WordLess),
+        6 => Some(Fault::NoWords),
+        7 => Some(Fault::Empty),
+        8 => Some(Fault::NoArc),
+        9 => Some(Fault::Early),
+        10 => Some(Fault::Late),
+        _ => None,
+    }
+}
 
 fn routes(call: usize) -> usize {
     let most = test_cells::pick(once_in(call, 5, 4), 12, 3);
-    let any = test_cells::add(below(call, 6, most), 1);
-    let more = test_cells::pick(fault(call) == THIRTEEN, 13, any);
-    test_cells::pick(fault(call) == NO_ROUTES, 0, more)
+    match fault_of(call) {
+        Some(Fault::NoRoutes) => 0,
+        Some(Fault::Thirteen) => 13,
+        _ => test_cells::add(below(call, 6, most), 1),
+    }
 }
 
 fn width(call: usize) -> usize {
     let any = test_cells::add(below(call, 7, 22), 1);
-    let wide = test_cells::add(65536, test_cells::mul(below(call, 8, 2), any));
-    test_cells::pick(fault(call) == TOO_WIDE, wide, any)
+    match fault_of(call) {
+        Some(Fault::TooWide) => test_cells::add(65536, test_cells::mul(below(call, 8, 2), any)),
+        _ => any,
+    }
 }
 
 // The width of the slots that a plan is fetched into: too narrow, just enough, any, or ample.
@@ -130,21 +145,20 @@ fn fetch_words(call: usize, due: usize) -> usize {
 }
 
 fn store_words(call: usize, due: usize) -> usize {
-    match fault(call) {
-        WORD_MORE => test_cells::add(due, 1),
-        WORD_LESS => test_cells::less_one(due),
-        NO_WORDS => 0,
+    match fault_of(call) {
+        Some(Fault::WordMore) => test_cells::add(due, 1),
+        Some(Fault::WordLess) => test_cells::less_one(due),
+        Some(Fault::NoWords) => 0,
         _ => due,
     }
 }
 
-fn words(kind: usize, call: usize, routes: usize, width: usize) -> usize {
+fn words(kind: Kind, call: usize, routes: usize, width: usize) -> usize {
     let due = test_cells::mul(routes, width);
-    let words = test_cells::pick(
-        kind == STORE,
-        store_words(call, due),
-        fetch_words(call, due),
-    );
+    let words = match kind {
+        Kind::Store => store_words(call, due),
+        _ => fetch_words(call, due),
+    };
     test_cells::pick(words > area::MOST_WORDS, area::MOST_WORDS, words)
 }
 
@@ -157,8 +171,8 @@ fn odd(call: usize) -> usize {
     )
 }
 
-pub(crate) fn request(cells: &cells::Cells, call: usize, kind: usize) -> Asked {
-    let store = kind == STORE;
+pub(crate) fn request(cells: &cells::Cells, call: usize, kind: Kind) -> Asked {
+    let store = kind == Kind::Store;
     let p = index(cells, call, store);
     let r = test_cells::pick(store, routes(call), cells::routes(cells, p));
     let w = test_cells::pick(
@@ -167,8 +181,8 @@ pub(crate) fn request(cells: &cells::Cells, call: usize, kind: usize) -> Asked {
         fetch_width(call, cells::longest(cells, p)),
     );
     Asked {
-        call: call,
-        kind: kind,
+        call,
+        kind,
         index: p,
         plan: cells::number(cells, p),
         routes: r,
@@ -206,23 +220,29 @@ fn right(asked: Asked, i: usize) -> usize {
     let r = area::over(i, asked.width);
     let m = area::rest(i, asked.width);
     let long = arcs(asked.call, asked.width, r);
-    let empty = (fault(asked.call) == EMPTY) & (r == below(asked.call, 25, asked.routes));
+    let empty = match fault_of(asked.call) {
+        Some(Fault::Empty) => r == below(asked.call, 25, asked.routes),
+        _ => false,
+    };
     test_cells::pick((m < long) & !empty, arc(asked.call, i), area::NONE)
 }
 
 fn spoilt(asked: Asked, i: usize) -> usize {
-    let right = right(asked, i);
-    let fault = fault(asked.call);
-    let here = i == below(asked.call, 26, asked.words);
-    let no_arc = test_cells::pick(here & (fault == NO_ARC), no_arc(asked.call), right);
-    let early = test_cells::pick(here & (fault == EARLY), area::NONE, no_arc);
-    test_cells::pick(here & (fault == LATE), arc(asked.call, i), early)
+    if i != below(asked.call, 26, asked.words) {
+        return right(asked, i);
+    }
+    match fault_of(asked.call) {
+        Some(Fault::NoArc) => no_arc(asked.call),
+        Some(Fault::Early) => area::NONE,
+        Some(Fault::Late) => arc(asked.call, i),
+        _ => right(asked, i),
+    }
 }
 
 // Word i of the area: a store's slots, or junk to fetch into.
 pub(crate) fn word(asked: Asked, i: usize) -> usize {
     let at = area::past(i, area::WORDS_FROM);
-    let lent = (i >= area::WORDS_FROM) & (at < asked.words) & (asked.kind == STORE);
+    let lent = (i >= area::WORDS_FROM) & (at < asked.words) & (asked.kind == Kind::Store);
     test_cells::pick(lent, spoilt(asked, at), area::JUNK_WORD)
 }
 

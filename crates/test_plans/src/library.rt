@@ -1,4 +1,5 @@
 // The library's calls, on buffers that lie in junk.
+use crate::draw::Kind;
 use crate::{area, cells, draw, model, report};
 use outcome::Told;
 
@@ -7,27 +8,17 @@ fn call(asked: draw::Asked, file: &mut [u8], slots: &mut [u32]) -> Told {
     let plan = area::narrow(asked.plan);
     let routes = area::narrow(asked.routes);
     let width = area::narrow(asked.width);
-    let kind = asked.kind;
-    match kind {
-        draw::STORE => plan_store::store(file, plan, slots, routes, width),
-        draw::FETCH => plan_fetch::fetch(file, plan, slots, width),
-        draw::WITHDRAW => plan_change::withdraw(file, plan),
-        _ => plan_change::collect(file),
+    match asked.kind {
+        Kind::Store => plan_store::store(file, plan, slots, routes, width),
+        Kind::Fetch => plan_fetch::fetch(file, plan, slots, width),
+        Kind::Withdraw => plan_change::withdraw(file, plan),
+        Kind::Collect => plan_change::collect(file),
     }
 }
 
-fn told(asked: draw::Asked, file: &mut [u8], slots: &mut [u32]) -> usize {
-    let told = call(asked, file, slots);
-    test_cells::place(
-        area::wide(told.outcome),
-        model::TOLD,
-        area::wide(told.number),
-    )
-}
-
 // Byte i of the file that is due: as it was under a refusal.
-pub(crate) fn byte_due(cells: &cells::Cells, file: &area::File, due: usize, i: usize) -> usize {
-    if due < model::TOLD {
+pub(crate) fn byte_due(cells: &cells::Cells, file: &area::File, due: Told, i: usize) -> usize {
+    if due.outcome == 0 {
         model::byte(cells, i) as usize
     } else {
         area::at(file, i)
@@ -35,8 +26,8 @@ pub(crate) fn byte_due(cells: &cells::Cells, file: &area::File, due: usize, i: u
 }
 
 // Word i of the slots that is due: as it was, but for a plan that was fetched.
-pub(crate) fn word_due(cells: &cells::Cells, asked: draw::Asked, due: usize, i: usize) -> usize {
-    if (due < model::TOLD) & (asked.kind == draw::FETCH) {
+pub(crate) fn word_due(cells: &cells::Cells, asked: draw::Asked, due: Told, i: usize) -> usize {
+    if (due.outcome == 0) & (asked.kind == Kind::Fetch) {
         model::fetched(cells, asked, i)
     } else {
         draw::word(asked, i)
@@ -47,24 +38,18 @@ pub(crate) fn word_due(cells: &cells::Cells, asked: draw::Asked, due: usize, i: 
 pub(crate) fn bytes_off(
     cells: &cells::Cells,
     file: &area::File,
-    due: usize,
+    due: Told,
     left: &area::File,
 ) -> usize {
-    let mut n = 0;
-    for i in 0..area::FILE {
-        let off = byte_due(cells, file, due, i) != area::at(left, i);
-        n = test_cells::add(n, off as usize);
-    }
-    n
+    (0..area::FILE)
+        .filter(|&i| byte_due(cells, file, due, i) != area::at(left, i))
+        .count()
 }
 
-fn words_off(cells: &cells::Cells, asked: draw::Asked, due: usize, left: &area::Words) -> usize {
-    let mut n = 0;
-    for i in 0..area::WORDS {
-        let off = word_due(cells, asked, due, i) != area::word(left, i);
-        n = test_cells::add(n, off as usize);
-    }
-    n
+fn words_off(cells: &cells::Cells, asked: draw::Asked, due: Told, left: &area::Words) -> usize {
+    (0..area::WORDS)
+        .filter(|&i| word_due(cells, asked, due, i) != area::word(left, i))
+        .count()
 }
 
 // Does the library answer what is due, and leave file and slots as is due? The cells hold what is
@@ -73,13 +58,13 @@ pub(crate) fn agrees(
     cells: &cells::Cells,
     asked: draw::Asked,
     file: &area::File,
-    due: usize,
+    due: Told,
 ) -> bool {
-    let mut left = area::copy(file);
+    let mut left = *file;
     let mut slots = draw::slots(asked);
     let e = area::end(asked.bytes);
     let w = area::words_end(asked.words);
-    let told = told(
+    let told = call(
         asked,
         &mut left[area::FROM..e],
         &mut slots[area::WORDS_FROM..w],

@@ -14,6 +14,9 @@ mod limits;
 mod model;
 mod report;
 
+use draw::Kind;
+use outcome::Outcome;
+
 const HISTORIES: usize = 1000;
 
 const STEPS: usize = 24;
@@ -22,12 +25,15 @@ const STEPS: usize = 24;
 fn ask(cells: &mut cells::Cells, asked: draw::Asked, file: &area::File, wrong: bool) {
     let words = draw::slots(asked);
     let due = model::due(cells, asked, &words, wrong);
-    if due < model::TOLD {
+    if due.outcome == 0 {
         model::change(cells, asked, &words);
     }
     let same = library::agrees(cells, asked, file, due);
-    let outcome = due / model::TOLD;
-    cells::count(cells, test_cells::place(asked.kind, cells::CALL, outcome));
+    let outcome = area::wide(due.outcome);
+    cells::count(
+        cells,
+        test_cells::place(asked.kind as usize, cells::CALL, outcome),
+    );
     cells::count(
         cells,
         test_cells::pick(same, cells::AGREED, cells::DIFFERENT),
@@ -37,7 +43,7 @@ fn ask(cells: &mut cells::Cells, asked: draw::Asked, file: &area::File, wrong: b
 // A file out of form, with each kind of call.
 fn refused(cells: &mut cells::Cells, file: &area::File, call: usize) {
     let before = cells::get(cells, cells::DIFFERENT);
-    for kind in 0..4 {
+    for kind in [Kind::Store, Kind::Fetch, Kind::Withdraw, Kind::Collect] {
         let asked = draw::request(cells, call, kind);
         ask(cells, asked, file, true);
     }
@@ -49,9 +55,10 @@ fn refused(cells: &mut cells::Cells, file: &area::File, call: usize) {
 // A file that is still in form: the model goes on from it, if it reads it rightly.
 fn taken(cells: &mut cells::Cells, file: &area::File) {
     damage::take(cells, file);
-    let off = library::bytes_off(cells, file, 0, file);
+    let found = Outcome::Found.plain();
+    let off = library::bytes_off(cells, file, found, file);
     if (off > 0) & (cells::get(cells, cells::DIFFERENT) == 0) {
-        report::files(cells, file, 0, file);
+        report::files(cells, file, found, file);
     }
     let right = test_cells::pick(off == 0, cells::TAKEN, cells::DIFFERENT);
     cells::count(cells, right);
@@ -69,13 +76,13 @@ fn damaged(cells: &mut cells::Cells, file: &area::File, call: usize) {
 }
 
 fn step(cells: &mut cells::Cells, call: usize) {
-    let kind = draw::step(call);
     let file = model::file(cells);
-    if kind < 4 {
-        let asked = draw::request(cells, call, kind);
-        ask(cells, asked, &file, false);
-    } else {
-        damaged(cells, &file, call);
+    match draw::step(call) {
+        Some(kind) => {
+            let asked = draw::request(cells, call, kind);
+            ask(cells, asked, &file, false);
+        }
+        None => damaged(cells, &file, call),
     }
 }
 
@@ -100,9 +107,9 @@ fn line(name: &[u8], of: usize, n: usize) {
 }
 
 // A line for each outcome of a kind of call.
-fn outcomes(name: &[u8], cells: &cells::Cells, kind: usize) {
+fn outcomes(name: &[u8], cells: &cells::Cells, kind: Kind) {
     for i in 0..cells::CALL {
-        let n = cells::get(cells, test_cells::place(kind, cells::CALL, i));
+        let n = cells::get(cells, test_cells::place(kind as usize, cells::CALL, i));
         if n > 0 {
             line(name, i, n);
         }
@@ -129,10 +136,10 @@ fn show_damaged(cells: &cells::Cells) {
 }
 
 fn show_outcomes(cells: &cells::Cells) {
-    outcomes(b"store, outcome ", cells, draw::STORE);
-    outcomes(b"fetch, outcome ", cells, draw::FETCH);
-    outcomes(b"withdraw, outcome ", cells, draw::WITHDRAW);
-    outcomes(b"collect, outcome ", cells, draw::COLLECT);
+    outcomes(b"store, outcome ", cells, Kind::Store);
+    outcomes(b"fetch, outcome ", cells, Kind::Fetch);
+    outcomes(b"withdraw, outcome ", cells, Kind::Withdraw);
+    outcomes(b"collect, outcome ", cells, Kind::Collect);
 }
 
 fn show_limits() {

@@ -1,8 +1,7 @@
 // The model: what each call is to answer, and what becomes of the plans and the records.
+use crate::draw::Kind;
 use crate::{area, cells, draw};
-
-// An answer is told as one number: TOLD times the outcome, and the number beside it.
-pub(crate) const TOLD: usize = 65536;
+use outcome::Told;
 
 fn slot_word(words: &area::Words, i: usize) -> usize {
     area::word(words, test_cells::add(area::WORDS_FROM, i))
@@ -19,41 +18,33 @@ fn misplaced(words: &area::Words, width: usize, i: usize) -> bool {
     !(arc | none)
 }
 
-// Of the words: 1 for each that begins a part, TOLD for each that may not stand where it does.
-fn counted(asked: draw::Asked, words: &area::Words) -> usize {
-    let mut n = 0;
-    for i in 0..asked.words {
-        let wrong = misplaced(words, asked.width, i);
-        let begins = (slot_word(words, i) < area::ARCS) & (area::rest(i, asked.width) % 6 == 0);
-        let both = test_cells::place(wrong as usize, TOLD, begins as usize);
-        n = test_cells::add(n, both);
-    }
-    n
+// How many words begin a part.
+fn parts(asked: draw::Asked, words: &area::Words) -> usize {
+    (0..asked.words)
+        .filter(|&i| slot_word(words, i) < area::ARCS && area::rest(i, asked.width) % 6 == 0)
+        .count()
 }
 
 // 17 of a store.
-fn wrong_request(asked: draw::Asked, misplaced: usize) -> bool {
+fn wrong_request(asked: draw::Asked, words: &area::Words) -> bool {
     let routes = (asked.plan == 0) | (asked.routes == 0) | (asked.routes > 12);
     let due = test_cells::mul(asked.routes, asked.width);
     let size = (asked.width == 0) | (asked.width > 65535) | (asked.words != due);
-    routes | size | (misplaced > 0)
+    routes || size || (0..asked.words).any(|i| misplaced(words, asked.width, i))
 }
 
 fn free(cells: &cells::Cells) -> usize {
-    let mut n = 0;
-    for i in 0..cells::records(cells) {
-        n = test_cells::add(n, (cells::part(cells, i) == 0) as usize);
-    }
-    n
+    (0..cells::records(cells))
+        .filter(|&i| cells::part(cells, i) == 0)
+        .count()
 }
 
 fn store_due(cells: &cells::Cells, asked: draw::Asked, words: &area::Words) -> usize {
     let there = cells::routes(cells, asked.index) > 0;
-    let counted = counted(asked, words);
-    let room = free(cells) < counted % TOLD;
+    let room = free(cells) < parts(asked, words);
     let full = test_cells::pick(room, 19, 0);
     let known = test_cells::pick(there, 18, full);
-    test_cells::pick(wrong_request(asked, counted / TOLD), 17, known)
+    test_cells::pick(wrong_request(asked, words), 17, known)
 }
 
 // 17 and 18 of a fetch and of a withdrawal.
@@ -75,12 +66,11 @@ fn fetch_due(cells: &cells::Cells, asked: draw::Asked) -> usize {
 }
 
 fn outcome(cells: &cells::Cells, asked: draw::Asked, words: &area::Words) -> usize {
-    let kind = asked.kind;
-    match kind {
-        draw::STORE => store_due(cells, asked, words),
-        draw::FETCH => fetch_due(cells, asked),
-        draw::WITHDRAW => absent_due(cells, asked),
-        _ => 0,
+    match asked.kind {
+        Kind::Store => store_due(cells, asked, words),
+        Kind::Fetch => fetch_due(cells, asked),
+        Kind::Withdraw => absent_due(cells, asked),
+        Kind::Collect => 0,
     }
 }
 
@@ -90,12 +80,15 @@ pub(crate) fn due(
     asked: draw::Asked,
     words: &area::Words,
     wrong: bool,
-) -> usize {
+) -> Told {
     let out = wrong | (asked.bytes % 32 > 0);
     let outcome = test_cells::pick(out, 16, outcome(cells, asked, words));
-    let fetched = (asked.kind == draw::FETCH) & (outcome == 0);
+    let fetched = (asked.kind == Kind::Fetch) & (outcome == 0);
     let routes = cells::routes(cells, asked.index);
-    test_cells::place(outcome, TOLD, test_cells::pick(fetched, routes, 0))
+    Told {
+        outcome: area::narrow(outcome),
+        number: area::narrow(test_cells::pick(fetched, routes, 0)),
+    }
 }
 
 // The routes of a plan, from the slots.
@@ -163,15 +156,14 @@ fn collect(cells: &mut cells::Cells) {
 // What becomes of the plans and the records.
 pub(crate) fn change(cells: &mut cells::Cells, asked: draw::Asked, words: &area::Words) {
     let index = asked.index;
-    let kind = asked.kind;
-    match kind {
-        draw::STORE => {
+    match asked.kind {
+        Kind::Store => {
             learn(cells, asked, words);
             lay_all(cells, index);
         }
-        draw::WITHDRAW => forget(cells, index),
-        draw::COLLECT => collect(cells),
-        _ => {}
+        Kind::Withdraw => forget(cells, index),
+        Kind::Collect => collect(cells),
+        Kind::Fetch => {}
     }
 }
 

@@ -13,7 +13,7 @@ pub(crate) const JUNK: u8 = 85;
 pub(crate) const AMPLE: usize = 400;
 
 // The outcome, the number beside it, the bytes that were made and a table's nodes.
-#[derive(Clone, Copy)]
+#[derive(Clone, Copy, PartialEq, Eq)]
 pub(crate) struct Answer {
     pub outcome: usize,
     pub number: usize,
@@ -32,26 +32,8 @@ pub(crate) fn part(area: &Area, bytes: usize) -> &[u8] {
     test_cells::between(area, FROM, test_cells::add(FROM, bytes))
 }
 
-pub(crate) fn same(area: &Area, other: &Area) -> bool {
-    for i in 0..AREA {
-        if area[i] != other[i] {
-            return false;
-        }
-    }
-    true
-}
-
 // Is all junk but the first bytes of the part that is lent?
 pub(crate) fn untouched(area: &Area, bytes: usize) -> bool {
     let end = test_cells::add(FROM, bytes);
-    for i in 0..AREA {
-        if (area[i] != JUNK) & ((i < FROM) | (i >= end)) {
-            return false;
-        }
-    }
-    true
-}
-
-pub(crate) fn alike(a: Answer, b: Answer) -> bool {
-    (a.outcome == b.outcome) & (a.number == b.number) & (a.bytes == b.bytes) & (a.nodes == b.nodes)
+    (0..AREA).all(|i| area[i] == JUNK || (FROM <= i && i < end))
 }

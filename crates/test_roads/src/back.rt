@@ -24,7 +24,7 @@ fn right(answer: area::Answer, out: &area::Area, read: area::Answer, left: &area
         bytes: writer::write(left, read.nodes, read.bytes / 16, &mut other),
         nodes: 0,
     };
-    area::alike(answer, due) & area::same(out, &other)
+    (answer == due) & (*out == other)
 }
 
 // Where the text reads well: does the library write what is due, and read that as it is to read the

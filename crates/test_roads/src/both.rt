@@ -2,26 +2,30 @@
 ghost use Rattle.std.specs.Prelude.{◌≤◌};
 
 use crate::{area, back, reader};
+use outcome::{Refusal, Told};
 use road_made::Made;
 
 fn wide(x: u32) -> usize {
     x as usize
 }
 
-pub(crate) fn told(made: Made) -> area::Answer {
-    match made {
-        Made::Done(bytes, nodes) => area::Answer {
+pub(crate) fn told(answer: Result<Made, Refusal>) -> area::Answer {
+    match answer {
+        Ok(made) => area::Answer {
             outcome: 0,
             number: 0,
-            bytes: bytes,
-            nodes: wide(nodes),
+            bytes: made.bytes,
+            nodes: wide(made.nodes),
         },
-        Made::Refused(outcome, number) => area::Answer {
-            outcome: wide(outcome),
-            number: wide(number),
-            bytes: 0,
-            nodes: 0,
-        },
+        Err(refusal) => {
+            let told = Told::from(refusal);
+            area::Answer {
+                outcome: wide(told.outcome),
+                number: wide(told.number),
+                bytes: 0,
+                nodes: 0,
+            }
+        }
     }
 }
 
@@ -46,7 +50,7 @@ pub(crate) fn gives(text: &[u8], room: usize, due: area::Answer, left: &area::Ar
     let mut area = [area::JUNK; area::AREA];
     let e = end(room);
     let answer = read(text, &mut area[area::FROM..e]);
-    area::alike(due, answer) & area::same(&area, left)
+    (due == answer) & (area == *left)
 }
 
 fn number(x: usize) {

@@ -94,7 +94,7 @@ fn refused(at: usize, other: usize) -> bool {
     let mut text = [area::JUNK; area::AREA];
     let lent = &mut text[area::FROM..area::FROM + area::AMPLE];
     let answer = back::write(area::part(&table, TABLE), 3, lent);
-    area::alike(answer, due) & area::untouched(&text, 0)
+    (answer == due) & area::untouched(&text, 0)
 }
 
 fn agreed() -> usize {

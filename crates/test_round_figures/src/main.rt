@@ -20,8 +20,8 @@ fn on_t(name: &[u8], k: u32, a: u32, b: u32, labels: &mut [u8]) {
         nodes: 4,
         s: 0,
         goal: 3,
-        a: a,
-        b: b,
+        a,
+        b,
     };
     run::run(name, &t, ask, k, labels, &mut area);
 }

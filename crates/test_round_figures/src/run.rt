@@ -4,7 +4,7 @@ ghost use Rattle.query_rounds.specs.Progress.{Wanted};
 
 use crate::show;
 use query::Wish;
-use query_rounds::Stand;
+use query_rounds::{Stage, Stand};
 use search_ask::Ask;
 
 // The rounds of an accepted query for k routes, the labels of each shown before the next begins.
@@ -13,15 +13,15 @@ fn rounds(name: &[u8], t: &[u8], ask: Ask, k: usize, labels: &mut [u8], area: &m
 {
     let w = ask.nodes as usize - 1;
     let end = k * w;
-    words::fill::fill32_part(area, 0, end, labels::field::NONE);
+    words::fill::fill_part(area, 0, end, labels::field::NONE);
     let mut lens = [0u64; summary::MOST_ROUTES];
     let mut arcs = [0u16; summary::MOST_ROUTES];
     let mut counts = [0u16; summary::MOST_ROUTES];
     let mut x = Stand {
         r: 0,
-        stage: query_rounds::GOING,
+        stage: Stage::GoesOn,
     };
-    while x.stage == query_rounds::GOING {
+    while let Stage::GoesOn = x.stage {
         let r = x.r;
         x = query_rounds::step(
             t,
@@ -43,12 +43,11 @@ fn rounds(name: &[u8], t: &[u8], ask: Ask, k: usize, labels: &mut [u8], area: &m
 pub(crate) fn run(name: &[u8], t: &[u8], ask: Ask, k: u32, labels: &mut [u8], area: &mut [u32]) {
     let wanted = k as usize;
     let wish = Wish {
-        k: k,
+        k,
         lent: wanted,
         closing: false,
     };
-    let told = query::refused(t, &t[0..0], ask, wish, labels, area);
-    if told.outcome == outcome::FOUND {
+    if let Ok(()) = query::refused(t, &t[0..0], ask, wish, labels, area) {
         rounds(name, t, ask, wanted, labels, area);
     }
 }

@@ -15,14 +15,10 @@ fn arc(a: u32) {
 
 // The overlaps of label i with r earlier answers.
 fn overlaps(labels: &[u8], i: usize, r: usize) {
-    let mut j = 0;
-    while j < r {
-        if i < labels.len() / labels::field::LABEL {
-            if j < labels::field::MOST_EARLIER {
-                number(b" ", labels::field::overlap(labels, i, j));
-            }
+    for j in 0..r {
+        if i < labels.len() / labels::field::LABEL && j < labels::field::MOST_EARLIER {
+            number(b" ", labels::field::overlap(labels, i, j));
         }
-        j += 1;
     }
 }
 
@@ -43,11 +39,8 @@ fn label(name: &[u8], r: usize, labels: &[u8], i: usize) {
 // All labels of the round after r answers, as it left them.
 pub(crate) fn round(name: &[u8], r: usize, counts: &[u16], labels: &[u8]) {
     if r < counts.len() {
-        let n = counts[r] as usize;
-        let mut i = 0;
-        while i < n {
+        for i in 0..counts[r] as usize {
             label(name, r, labels, i);
-            i += 1;
         }
     }
 }

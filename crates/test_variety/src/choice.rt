@@ -1,5 +1,6 @@
 // The choice: all sets of ranks are looked at, those of one number in order of their ranks.
-use crate::{cells, near, routes};
+use crate::near;
+use test_draw::{cells, routes};
 
 // The most routes that are chosen from.
 pub(crate) const MOST: usize = 12;
@@ -30,23 +31,13 @@ pub(crate) fn has(set: &Set, rank: usize) -> bool {
     if rank < MOST { set[rank] > 0 } else { false }
 }
 
-// Is the arc on the row?
-fn drives(rows: &routes::Rows, row: usize, arc: usize) -> bool {
-    let count = routes::of_row(rows, row, routes::COUNT);
-    for j in 0..count {
-        if routes::step(rows, row, j) == test_cells::add(arc, 1) {
-            return true;
-        }
-    }
-    false
-}
-
 // The length of the arcs that stand on one of the rows at least, or on both.
-fn length(case: &cells::Cells, rows: &routes::Rows, p: usize, q: usize, both: bool) -> usize {
+fn length(case: &[usize], rows: &[usize], p: usize, q: usize, both: bool) -> usize {
     let mut sum = 0;
     for arc in 0..cells::MOST_ARCS {
-        let here = drives(rows, p, arc);
-        let there = drives(rows, q, arc);
+        let step = test_cells::add(arc, 1);
+        let here = routes::drives(rows, p, step);
+        let there = routes::drives(rows, q, step);
         let counts = (here & there) | ((here | there) & !both);
         let long = cells::of_arc(case, arc, cells::LONG);
         sum = test_cells::add(sum, test_cells::pick(counts, long, 0));
@@ -56,14 +47,7 @@ fn length(case: &cells::Cells, rows: &routes::Rows, p: usize, q: usize, both: bo
 
 // The top of the fraction of ranks p and q, or its bottom: one minus the shared length over that of
 // the union.
-fn part(
-    case: &cells::Cells,
-    rows: &routes::Rows,
-    near: &cells::Cells,
-    p: usize,
-    q: usize,
-    top: bool,
-) -> usize {
+fn part(case: &[usize], rows: &[usize], near: &[usize], p: usize, q: usize, top: bool) -> usize {
     let union = length(case, rows, near::row(near, p), near::row(near, q), false);
     if !top {
         return union;
@@ -73,9 +57,9 @@ fn part(
 }
 
 // The fractions of each two ranks, the lower first.
-pub(crate) fn all_pairs(case: &cells::Cells, rows: &routes::Rows, near: &cells::Cells) -> Pairs {
+pub(crate) fn all_pairs(case: &[usize], rows: &[usize], near: &[usize]) -> Pairs {
     let mut pairs = [0usize; PAIRS];
-    let count = cells::get(near, near::COUNT);
+    let count = test_cells::get(near, near::COUNT);
     for i in 0..PAIRS {
         let p = i / 2 / MOST;
         let q = i / 2 % MOST;
@@ -133,8 +117,8 @@ fn least(pairs: &Pairs, set: &Set) -> Choice {
         if pair & less(top, bottom, best.top, best.bottom) {
             best = Choice {
                 set: 0,
-                top: top,
-                bottom: bottom,
+                top,
+                bottom,
                 equal: 1,
             };
         }

@@ -1,50 +1,29 @@
 // The profile: candidates in the order of rule 3, each kept if within the threshold of all kept
 // before, until k.
-use crate::{candidates, cells};
-
-// Rule 3: the length, then the arc numbers from the start.
-fn precedes(list: &cells::Cells, row: usize, other: usize) -> bool {
-    let here = candidates::of_row(list, row, candidates::LENGTH);
-    let there = candidates::of_row(list, other, candidates::LENGTH);
-    if here == there {
-        smaller(list, row, other)
-    } else {
-        here < there
-    }
-}
-
-fn smaller(list: &cells::Cells, row: usize, other: usize) -> bool {
-    for i in candidates::STEPS..candidates::ROW {
-        let here = candidates::of_row(list, row, i);
-        let there = candidates::of_row(list, other, i);
-        if here != there {
-            return here < there;
-        }
-    }
-    false
-}
+use crate::{candidates, own};
+use test_draw::{cells, routes};
 
 // The first of those that wait, or MOST_NODES.
-fn best(list: &cells::Cells) -> usize {
+fn best(list: &[usize]) -> usize {
     let none = candidates::MOST_NODES;
     let mut best = none;
     for row in 0..none {
-        let first = (best == none) | precedes(list, row, best);
+        let first = (best == none) | routes::precedes(list, row, best);
         best = test_cells::pick(candidates::waits(list, row) & first, row, best);
     }
     best
 }
 
 // Are the two arcs of one road: the same arc, or two with one road number other than zero?
-fn one_road(case: &cells::Cells, arc: usize, other: usize) -> bool {
+fn one_road(case: &[usize], arc: usize, other: usize) -> bool {
     let road = cells::of_arc(case, arc, cells::ROAD);
     let same = road == cells::of_arc(case, other, cells::ROAD);
     (arc == other) | (same & (road > 0))
 }
 
 // Does the row drive the arc's road?
-fn drives(list: &cells::Cells, case: &cells::Cells, row: usize, arc: usize) -> bool {
-    let count = candidates::of_row(list, row, candidates::COUNT);
+fn drives(list: &[usize], case: &[usize], row: usize, arc: usize) -> bool {
+    let count = routes::of_row(list, row, routes::COUNT);
     for i in 0..count {
         if one_road(case, arc, candidates::arc(list, row, i)) {
             return true;
@@ -54,8 +33,8 @@ fn drives(list: &cells::Cells, case: &cells::Cells, row: usize, arc: usize) -> b
 }
 
 // The lengths of the row's arcs whose road the other drives.
-fn overlap(list: &cells::Cells, case: &cells::Cells, row: usize, other: usize) -> usize {
-    let count = candidates::of_row(list, row, candidates::COUNT);
+fn overlap(list: &[usize], case: &[usize], row: usize, other: usize) -> usize {
+    let count = routes::of_row(list, row, routes::COUNT);
     let mut sum = 0;
     for i in 0..count {
         let arc = candidates::arc(list, row, i);
@@ -66,20 +45,20 @@ fn overlap(list: &cells::Cells, case: &cells::Cells, row: usize, other: usize) -
     sum
 }
 
-fn within(list: &cells::Cells, case: &cells::Cells, row: usize, other: usize) -> bool {
-    let length = candidates::of_row(list, other, candidates::LENGTH);
-    let most = test_cells::mul(cells::get(case, cells::THRESHOLD_A), length);
+fn within(list: &[usize], case: &[usize], row: usize, other: usize) -> bool {
+    let length = routes::of_row(list, other, routes::LENGTH);
+    let most = test_cells::mul(test_cells::get(case, cells::THRESHOLD_A), length);
     let shared = overlap(list, case, row, other);
-    test_cells::mul(cells::get(case, cells::THRESHOLD_B), shared) <= most
+    test_cells::mul(test_cells::get(case, cells::THRESHOLD_B), shared) <= most
 }
 
 // The row that is kept as number i.
-pub(crate) fn kept(list: &cells::Cells, i: usize) -> usize {
-    cells::get(list, test_cells::add(candidates::KEPT_ROWS, i))
+pub(crate) fn kept(list: &[usize], i: usize) -> usize {
+    test_cells::get(list, test_cells::add(candidates::KEPT_ROWS, i))
 }
 
-fn within_all(list: &cells::Cells, case: &cells::Cells, row: usize) -> bool {
-    let count = cells::get(list, candidates::KEPT);
+fn within_all(list: &[usize], case: &[usize], row: usize) -> bool {
+    let count = test_cells::get(list, candidates::KEPT);
     for i in 0..count {
         if !within(list, case, row, kept(list, i)) {
             return false;
@@ -89,26 +68,26 @@ fn within_all(list: &cells::Cells, case: &cells::Cells, row: usize) -> bool {
 }
 
 // The row no longer waits, and is kept or not.
-fn settle(list: &mut cells::Cells, case: &cells::Cells, row: usize) {
+fn settle(list: &mut [usize], case: &[usize], row: usize) {
     let keeps = within_all(list, case, row);
-    let count = cells::get(list, candidates::KEPT);
+    let count = test_cells::get(list, candidates::KEPT);
     candidates::pass(list, row);
-    cells::put(list, test_cells::add(candidates::KEPT_ROWS, count), row);
+    test_cells::put(list, test_cells::add(candidates::KEPT_ROWS, count), row);
     cells::count(list, candidates::KEPT, keeps as usize);
     cells::count(list, candidates::PAST, !keeps as usize);
 }
 
 // Settles the first of those that wait, while fewer than k are kept.
-fn turn(list: &mut cells::Cells, case: &cells::Cells) {
+fn turn(list: &mut [usize], case: &[usize]) {
     let row = best(list);
-    let wanted = cells::get(list, candidates::KEPT) < cells::get(case, cells::ROUTES);
+    let wanted = test_cells::get(list, candidates::KEPT) < test_cells::get(case, cells::ROUTES);
     if (row < candidates::MOST_NODES) & wanted {
         settle(list, case, row);
     }
 }
 
 // The candidates with those that are kept.
-pub(crate) fn chosen(case: cells::Cells) -> cells::Cells {
+pub(crate) fn chosen(case: own::Cells) -> own::Cells {
     let mut list = candidates::list(case);
     for i in 0..candidates::MOST_NODES {
         turn(&mut list, &case);

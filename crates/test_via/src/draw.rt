@@ -1,45 +1,7 @@
 // Queries and tables. A number of a case is settled by the number of the case and of the draw.
-use crate::cells;
-
-// The draws of a case: those of the query, and from FIRST on those of each arc.
-const DRAWS: usize = 256;
-
-const FIRST: usize = 32;
-
-const OF_ARC: usize = 16;
-
-// The manners in which arcs have road numbers: none; from 1 on those named here.
-const BOTH_SIDES: usize = 1;
-
-const FEW_ROADS: usize = 2;
-
-const GREATEST: usize = 3;
-
-fn next(x: usize) -> usize {
-    let y = x % 2147483648;
-    (y * 1103515245 + 12345) % 2147483648
-}
-
-// The middle of the square: draws that only `next` parts would stand in a fixed relation.
-fn middle(x: usize) -> usize {
-    let y = x % 2147483648;
-    test_cells::mul(y, y) / 32768 % 2147483648
-}
-
-fn rest(x: usize, n: usize) -> usize {
-    if n == 0 { 0 } else { x % n }
-}
-
-// A number below n.
-fn below(case: usize, draw: usize, n: usize) -> usize {
-    let x = test_cells::place(case, DRAWS, draw);
-    rest(middle(next(middle(next(x)))) / 65536, n)
-}
-
-// One time in n.
-fn once_in(case: usize, draw: usize, n: usize) -> bool {
-    below(case, draw, n) == 0
-}
+use crate::own;
+use test_draw::draw::{below, either, once_in};
+use test_draw::{cells, drawn};
 
 fn nodes(case: usize) -> usize {
     let few = test_cells::add(below(case, 1, 5), 2);
@@ -51,12 +13,7 @@ fn nodes(case: usize) -> usize {
 }
 
 fn records(case: usize) -> usize {
-    let few = test_cells::add(below(case, 3, 10), 1);
-    test_cells::pick(
-        once_in(case, 2, 10),
-        few,
-        test_cells::add(below(case, 3, 2), 9),
-    )
+    either(case, 2, 10, 1..11, 9..11)
 }
 
 fn routes(case: usize) -> usize {
@@ -70,8 +27,7 @@ fn denominator(case: usize) -> usize {
     test_cells::add(below(case, 7, most), 1)
 }
 
-fn numerator(case: usize) -> usize {
-    let b = denominator(case);
+fn numerator(case: usize, b: usize) -> usize {
     test_cells::pick(
         once_in(case, 8, 2),
         test_cells::less_one(b),
@@ -79,133 +35,32 @@ fn numerator(case: usize) -> usize {
     )
 }
 
-// Words of the area: those of the slots, and some more.
-fn words(case: usize) -> usize {
-    let width = test_cells::less_one(nodes(case));
-    test_cells::add(test_cells::mul(routes(case), width), below(case, 10, 4))
-}
-
-fn summaries(case: usize) -> usize {
-    test_cells::pick(once_in(case, 11, 2), routes(case), 12)
-}
-
-// Another node than v: number x of them.
-fn other(case: usize, x: usize, v: usize) -> usize {
-    let y = rest(x, test_cells::less_one(nodes(case)));
-    test_cells::pick(y < v, y, test_cells::add(y, 1))
-}
-
-fn first_node(case: usize) -> usize {
-    below(case, 12, nodes(case))
-}
-
-// Cell i of the case, but for the arcs.
-fn asked(case: usize, i: usize) -> usize {
-    match i {
-        cells::NODES => nodes(case),
-        cells::ARC_COUNT => records(case),
-        cells::START => first_node(case),
-        cells::GOAL => other(case, below(case, 13, 60), first_node(case)),
-        cells::ROUTES => routes(case),
-        cells::THRESHOLD_A => numerator(case),
-        cells::THRESHOLD_B => denominator(case),
-        cells::ROOM => 1000,
-        cells::WORDS => words(case),
-        cells::SUMMARIES => summaries(case),
-        cells::CLOSURES => 1,
-        cells::CLOSURE_BYTES => records(case),
-        cells::MORE_WORK => below(case, 14, 64),
-        _ => 0,
-    }
-}
-
-// The first draw of arc i.
-fn draws(i: usize) -> usize {
-    test_cells::place(i, OF_ARC, FIRST)
-}
-
-// The start nodes never fall, and each is that of about as many arcs.
-fn start(case: usize, i: usize) -> usize {
-    let n = nodes(case);
-    let x = test_cells::place(i, n, below(case, draws(i), n));
-    let records = records(case);
-    if records == 0 { 0 } else { x / records }
-}
-
-// The end nodes go round, but one time in three any is drawn, which may lay two arcs beside each
-// other.
-fn end(case: usize, i: usize, from: usize) -> usize {
-    let any = below(case, test_cells::add(draws(i), 2), 60);
-    let drawn = once_in(case, test_cells::add(draws(i), 1), 3);
-    let round = test_cells::add(below(case, 19, 60), i);
-    other(case, test_cells::pick(drawn, any, round), from)
-}
-
-fn length(case: usize, i: usize) -> usize {
-    let any = test_cells::add(below(case, test_cells::add(draws(i), 3), 3), 1);
-    let most = once_in(case, test_cells::add(draws(i), 4), 60);
-    test_cells::pick(most, 1000000, any)
-}
-
-// One number for both directions between two nodes.
-fn street(from: usize, to: usize) -> usize {
-    let low = test_cells::pick(from < to, from, to);
-    let high = test_cells::pick(from < to, to, from);
-    test_cells::add(test_cells::place(high, 8, low), 1)
-}
-
-// One of the three greatest numbers, or 0.
-fn greatest(x: usize) -> usize {
-    if x == 0 {
-        return 0;
-    }
-    if x < 4 { 4294967296 - x } else { 0 }
-}
-
-// The road number of arc i, which leads from `from` to `to`.
-fn road(case: usize, i: usize, from: usize, to: usize) -> usize {
-    let draw = test_cells::add(draws(i), 5);
+fn roads(case: usize) -> drawn::Roads {
     match below(case, 15, 5) {
-        BOTH_SIDES => street(from, to),
-        FEW_ROADS => below(case, draw, test_cells::add(below(case, 16, 5), 2)),
-        GREATEST => greatest(below(case, draw, 6)),
-        _ => 0,
-    }
-}
-
-// The closure byte of arc i: in three quarters of the cases all are open.
-fn closure(case: usize, i: usize) -> usize {
-    let manner = test_cells::add(below(case, 18, 4), 3);
-    let closed = once_in(case, test_cells::add(draws(i), 6), manner);
-    test_cells::pick(once_in(case, 17, 4), closed as usize, 0)
-}
-
-// Number j of arc i.
-fn of_arc(case: usize, i: usize, j: usize) -> usize {
-    let from = start(case, i);
-    match j {
-        cells::FROM => from,
-        cells::TO => end(case, i, from),
-        cells::LONG => length(case, i),
-        cells::ROAD => road(case, i, from, end(case, i, from)),
-        _ => closure(case, i),
-    }
-}
-
-fn arcs(cells: &mut cells::Cells, case: usize) {
-    let count = test_cells::mul(records(case), cells::ARC);
-    for c in 0..count {
-        let number = of_arc(case, c / cells::ARC, c % cells::ARC);
-        cells::put(cells, test_cells::add(cells::ARCS, c), number);
+        1 => drawn::Roads::BothSides,
+        2 => drawn::Roads::Few(test_cells::add(below(case, 16, 5), 2)),
+        3 => drawn::Roads::Greatest,
+        _ => drawn::Roads::None,
     }
 }
 
 // A query and its table.
-pub(crate) fn case(number: usize) -> cells::Cells {
-    let mut case = [0usize; cells::CELLS];
-    for i in 0..cells::CELLS {
-        case[i] = asked(number, i);
-    }
-    arcs(&mut case, number);
+pub(crate) fn case(number: usize) -> own::Cells {
+    let table = drawn::Table {
+        case: number,
+        nodes: nodes(number),
+        arcs: records(number),
+        lie: drawn::Lie::Anyhow,
+        lengths: 3,
+        roads: roads(number),
+    };
+    let k = routes(number);
+    let b = denominator(number);
+    let mut case = [0usize; own::CELLS];
+    table.put(&mut case, k);
+    case[cells::THRESHOLD_A] = numerator(number, b);
+    case[cells::THRESHOLD_B] = b;
+    case[cells::SUMMARIES] = test_cells::pick(once_in(number, 11, 2), k, 12);
+    case[own::MORE_WORK] = table.more_work();
     case
 }

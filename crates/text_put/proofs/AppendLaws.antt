@@ -6,8 +6,8 @@ use Prim.Native.Nat.{ℕ, ◌+◌, ◌≤◌, ◌<◌}
 use native.Mathlib.Nat.{add-zero}
 use native.Mathlib.Numerals.{add-one}
 use native.Mathlib.Omega.{arith}
-use lib.ListN.{length, get_or, set, take, drop, take-append-drop, length-append}
-use lib.Seq.{take-suc, take_all, length-take-le, take_at, drop_at, drop-drop, set_split}
+use lib.ListN.{length, set, take, drop, take-append-drop, length-append}
+use lib.Seq.{length-take-le, take_at, drop_at, drop-drop, set_split}
 use Rattle.words.specs.Part.{patch}
 use Rattle.words.proofs.PartLaws.{length-patch}
 use Rattle.text_put.specs.Put.{Appended}
@@ -63,18 +63,3 @@ appended-more l at x m p y n r a b h = record {
   is = cc (a.is, a.place, b.is, patch-more l at x h y);
   place = b.place ∙ omega (arith, a.place, length-append x y);
 }
-
--- ---- the first i bytes of s, the turns of a loop
-
-pub front-none : (l : List ℕ) (at : ℕ) (s : List ℕ) → Appended l at (take 0 s) l (at + 0)
-front-none l at s = rw add-zero (appended-none l at)
-
-pub front-more : (l : List ℕ) (at : ℕ) (s m : List ℕ) (i : ℕ) → Appended l at (take i s) m (at + i) → i < length s → at + length s ≤ length l → length m ≡ length l
-    → Appended l at (take (i + 1) s) (set m (at + i) (get_or s i 0)) (at + (i + 1))
-front-more l at s m i a h g k =
-    let e : at + (i + 1) ≡ at + i + 1 = omega arith in
-    rw (e, add-one i, take-suc s i 0 h)
-    (appended-more l at (take i s) m (at + i) (get_or s i 0 ∷ []) _ _ a (appended_one m (at + i) (get_or s i 0) (omega arith)) (omega arith))
-
-pub front-all : (l : List ℕ) (at : ℕ) (s m : List ℕ) (i : ℕ) → Appended l at (take i s) m (at + i) → i ≡ length s → Appended l at s m (at + i)
-front-all l at s m i a h = rw (take_all i s (omega arith)) at a

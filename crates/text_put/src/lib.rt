@@ -10,12 +10,9 @@ pub fn bytes(out: &mut [u8], at: usize, s: &[u8]) -> usize
     requires { at + length s.now ≤ length out.old }
     ensures { Appended out.old at s.now out.new result }
 {
-    let mut i = 0;
-    while i < s.len() {
-        out[at + i] = s[i];
-        i += 1;
-    }
-    at + i
+    let next = at + s.len();
+    out[at..next].copy_from_slice(s);
+    next
 }
 
 // A space and a number.
@@ -24,6 +21,6 @@ pub fn spaced(out: &mut [u8], at: usize, v: u64) -> usize
     ensures { Appended out.old at (space ∷ decimal v)
         out.new result }
 {
-    out[at] = 32;
+    out[at] = b' ';
     numerals::put(out, at + 1, v)
 }

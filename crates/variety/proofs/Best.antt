@@ -18,7 +18,7 @@ use Rattle.lists.proofs.MemberLaws.{length-up_from}
 use Rattle.net.specs.Net.{Arc}
 use Rattle.net.specs.Route.{length_of, numbers_first}
 use Rattle.variety.specs.Choice.{choices_of, hope, better, best_of}
-use Rattle.variety.specs.declared.Fraction.{Fraction}
+use Rattle.products.specs.declared.Fraction.{Fraction}
 use Rattle.variety.specs.Variety.{less, variety, varied, chosen, no_route, pairwise}
 use Rattle.variety.proofs.Fractions.{Proper, less-e, less-i, not-less, least-proper, proper, named}
 
@@ -172,7 +172,7 @@ less-weak x y z px py h = go (cases (less x y))
   where
     go : (less x y ≡ true) ⊎ (less x y ≡ false) → T (less x y) ⊎ T (less y z)
     go (inl e) = inl (subst T (sym e) tt)
-    go (inr e) = inr (less-i y z (lt_of_mul-lt-mul_left x.bottom (omega (arith, mul-lt-mul_of_pos_left {k = y.bottom} (less-e x z h) py, mul-le-mul_left z.bottom (not-less x y e)))))
+    go (inr e) = inr (less-i y z (lt_of_mul-lt-mul_left x.under (omega (arith, mul-lt-mul_of_pos_left {k = y.under} (less-e x z h) py, mul-le-mul_left z.under (not-less x y e)))))
 
 module _ (arcs : List Arc) (list : List (List ℕ)) (long : (i : ℕ) → 0 < length_of arcs (get_or list i no_route)) where
   pub variety-proper : (ranks : List ℕ) → Proper (variety arcs list ranks)

@@ -17,31 +17,31 @@ use Rattle.net.specs.Net.{Arc, arc}
 use Rattle.net.specs.Route.{length_of}
 use Rattle.net.proofs.Order.{length_of-append}
 use Rattle.variety.specs.Choice.{choices_of, best_of, search_from}
-use Rattle.variety.specs.declared.Fraction.{Fraction}
+use Rattle.products.specs.declared.Fraction.{Fraction}
 use Rattle.variety.specs.Variety.{less, shared, union, apart, pairwise, lower, least, variety, varied, chosen, no_route}
 use Rattle.variety.proofs.Choice.{search-all}
 
 -- ---- less
 
 abbrev pub Proper : Fraction → Type 0
-Proper x = 0 < x.bottom
+Proper x = 0 < x.under
 
-pub less-e : (x y : Fraction) → T (less x y) → x.top * y.bottom < y.top * x.bottom
+pub less-e : (x y : Fraction) → T (less x y) → x.over * y.under < y.over * x.under
 unfolding less
 less-e x y h = ltb→lt _ _ h
 
-pub less-i : (x y : Fraction) → x.top * y.bottom < y.top * x.bottom → T (less x y)
+pub less-i : (x y : Fraction) → x.over * y.under < y.over * x.under → T (less x y)
 unfolding less
 less-i x y h = lt→ltb _ _ h
 
-pub not-less : (x y : Fraction) → less x y ≡ false → y.top * x.bottom ≤ x.top * y.bottom
+pub not-less : (x y : Fraction) → less x y ≡ false → y.over * x.under ≤ x.over * y.under
 unfolding less
-not-less x y f = ltb-false (x.top * y.bottom) (y.top * x.bottom) f
+not-less x y f = ltb-false (x.over * y.under) (y.over * x.under) f
 
 -- b < y and y ≤ x give b < x
-less_then : (b x y : Fraction) → Proper x → Proper b → T (less b y) → y.top * x.bottom ≤ x.top * y.bottom → T (less b x)
+less_then : (b x y : Fraction) → Proper x → Proper b → T (less b y) → y.over * x.under ≤ x.over * y.under → T (less b x)
 less_then b x y px pb h k =
-    less-i b x (lt_of_mul-lt-mul_left y.bottom (omega (arith, mul-lt-mul_of_pos_left {k = x.bottom} (less-e b y h) px, mul-le-mul_left b.bottom k)))
+    less-i b x (lt_of_mul-lt-mul_left y.under (omega (arith, mul-lt-mul_of_pos_left {k = x.under} (less-e b y h) px, mul-le-mul_left b.under k)))
 
 -- the lower of two is above b exactly if both are
 pub lower-e : (b x y : Fraction) → Proper b → Proper x → Proper y → T (less b (lower x y)) → T (less b x) × T (less b y)
@@ -78,7 +78,7 @@ least-proper (x ∷ xs) h = lower-proper x (least xs) (h x (Memᴰ.head refl)) (
 
 -- ---- the least of some is above b exactly if each is, and one
 
-pub least-e : (b : Fraction) (xs : List Fraction) → Proper b → AllProper xs → T (less b (least xs)) → T (less b (record { top = 1; bottom = 1 })) × ((x : Fraction) → Memᴰ x xs → T (less b x))
+pub least-e : (b : Fraction) (xs : List Fraction) → Proper b → AllProper xs → T (less b (least xs)) → T (less b (record { over = 1; under = 1 })) × ((x : Fraction) → Memᴰ x xs → T (less b x))
 unfolding least AllProper
 least-e b [] pb h k = (k, λ x m. absurd (Memᴰ.not-nil m))
 least-e b (y ∷ xs) pb h k =
@@ -86,7 +86,7 @@ least-e b (y ∷ xs) pb h k =
     let i = least-e b xs pb (λ x m. h x (Memᴰ.tail m)) l.1 in
     (i.0, λ x m. ⊎_elim (λ e. subst (λ z. T (less b z)) (sym e) l.0) (i.1 x) (Memᴰ.cases_cons m))
 
-pub least-i : (b : Fraction) (xs : List Fraction) → T (less b (record { top = 1; bottom = 1 })) → ((x : Fraction) → Memᴰ x xs → T (less b x)) → T (less b (least xs))
+pub least-i : (b : Fraction) (xs : List Fraction) → T (less b (record { over = 1; under = 1 })) → ((x : Fraction) → Memᴰ x xs → T (less b x)) → T (less b (least xs))
 unfolding least
 least-i b [] o h = o
 least-i b (x ∷ xs) o h = lower-i b x (least xs) (h x (Memᴰ.head refl)) (least-i b xs o (λ y m. h y (Memᴰ.tail m)))
@@ -120,7 +120,7 @@ module _ (arcs : List Arc) where
   unfolding union shared
   union-is p q = omega (arith, length_of-append arcs p (keep (λ a. not (has a p)) q), keep-parts (λ a. has a p) q)
 
-  pub apart-is : (p q : List ℕ) → apart arcs p q ≡ record { top = length_of arcs p + length_of arcs q - 2 * shared arcs p q; bottom = length_of arcs p + length_of arcs q - shared arcs p q }
+  pub apart-is : (p q : List ℕ) → apart arcs p q ≡ record { over = length_of arcs p + length_of arcs q - 2 * shared arcs p q; under = length_of arcs p + length_of arcs q - shared arcs p q }
   unfolding apart
   apart-is p q =
       let e : union arcs p q - shared arcs p q ≡ length_of arcs p + length_of arcs q - 2 * shared arcs p q = omega (arith, union-is p q) in

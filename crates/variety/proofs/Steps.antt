@@ -12,26 +12,26 @@ use lib.ListN.{get_or}
 use Rattle.lists.proofs.Cases.{three_ways}
 use Rattle.net.specs.Net.{Arc}
 use Rattle.net.specs.Route.{length_of}
-use Rattle.variety.specs.declared.Fraction.{Fraction}
+use Rattle.products.specs.declared.Fraction.{Fraction}
 use Rattle.variety.specs.Variety.{less, apart, pairwise, lower, least, variety, no_route}
 use Rattle.variety.proofs.Fractions.{Proper, AllProper, less-e, less-i, lower-e, lower-i, lower-proper, least-proper, least-e, least-i, proper, pairs-front, union-positive, named}
 use Rattle.variety.proofs.Choice.{map-map}
 
 -- equal as fractions
 abbrev pub Same : Fraction → Fraction → Type 0
-Same x y = x.top * y.bottom ≡ y.top * x.bottom
+Same x y = x.over * y.under ≡ y.over * x.under
 
 pub same-sym : (x y : Fraction) → Same x y → Same y x
 same-sym x y e = sym e
 
 pub same-trans : (x y z : Fraction) → Proper y → Same x y → Same y z → Same x z
-same-trans x y z py e f = eq_of_mul-eq-mul_left y.bottom py (x.top * z.bottom) (z.top * x.bottom) (omega (arith, ap (λ u. u * z.bottom) e, ap (λ u. u * x.bottom) f))
+same-trans x y z py e f = eq_of_mul-eq-mul_left y.under py (x.over * z.under) (z.over * x.under) (omega (arith, ap (λ u. u * z.under) e, ap (λ u. u * x.under) f))
 
 -- below both or below neither: the same
 pub same_by : (x y : Fraction) → Proper x → Proper y → ((b : Fraction) → Proper b → T (less b x) → T (less b y)) → ((b : Fraction) → Proper b → T (less b y) → T (less b x)) → Same x y
-same_by x y px py f g = go (three_ways (x.top * y.bottom) (y.top * x.bottom))
+same_by x y px py f g = go (three_ways (x.over * y.under) (y.over * x.under))
   where
-    go : (x.top * y.bottom < y.top * x.bottom) ⊎ (x.top * y.bottom ≡ y.top * x.bottom) ⊎ (y.top * x.bottom < x.top * y.bottom) → Same x y
+    go : (x.over * y.under < y.over * x.under) ⊎ (x.over * y.under ≡ y.over * x.under) ⊎ (y.over * x.under < x.over * y.under) → Same x y
     go (inl h) = let k = less-e x x (g x px (less-i x y h)) in absurd (omega arith)
     go (inr (inl e)) = e
     go (inr (inr h)) = let k = less-e y y (f y py (less-i y x h)) in absurd (omega arith)
@@ -40,15 +40,15 @@ same_by x y px py f g = go (three_ways (x.top * y.bottom) (y.top * x.bottom))
 pub less-same : (x x' y y' : Fraction) → Proper x → Proper x' → Proper y → Proper y' → Same x x' → Same y y' → T (less x y) → T (less x' y')
 less-same x x' y y' px px' py py' e f h =
     less-i x' y'
-    (lt_of_mul-lt-mul_left (x.bottom * y.bottom)
-    (omega (arith, mul-lt-mul_of_pos_left {k = x'.bottom * y'.bottom} (less-e x y h) (pos x'.bottom y'.bottom px' py'), ap (λ z. z * (y.bottom * y'.bottom)) e, ap (λ z. z * (x.bottom * x'.bottom)) f)))
+    (lt_of_mul-lt-mul_left (x.under * y.under)
+    (omega (arith, mul-lt-mul_of_pos_left {k = x'.under * y'.under} (less-e x y h) (pos x'.under y'.under px' py'), ap (λ z. z * (y.under * y'.under)) e, ap (λ z. z * (x.under * x'.under)) f)))
   where
     pos : (a b : ℕ) → 0 < a → 0 < b → 0 < a * b
     pos a b h k = let l = mul-lt-mul_of_pos_left {m = 0} {n = b} {k = a} k h in omega arith
 
 -- ---- the least of two lists
 
-one-proper : Proper (record { top = 1; bottom = 1 })
+one-proper : Proper (record { over = 1; under = 1 })
 one-proper = omega arith
 
 all_append : (xs ys : List Fraction) → AllProper xs → AllProper ys → AllProper (xs ++ ys)

@@ -8,7 +8,7 @@ use Rattle.net.specs.Route.{end_of, length_of, partials_by, partials}
 use Rattle.distances.specs.Distance.{distance}
 use Rattle.outcome.specs.declared.Told.{Told}
 use Rattle.outcome.specs.Outcome.{found, list_full, too_few, plain, beside}
-use Rattle.variety.specs.declared.Fraction.{Fraction}
+use Rattle.products.specs.declared.Fraction.{Fraction}
 use Rattle.variety.specs.Choice.{choices_of, best_of}
 
 -- ---- The list.
@@ -32,7 +32,7 @@ near net s t c d = near_of net s t c d (distance net s t)
 
 -- "compared as whole-number fractions"
 unfoldable pub less : Fraction → Fraction → Bool
-less x y = ltb (x.top * y.bottom) (y.top * x.bottom)
+less x y = ltb (x.over * y.under) (y.over * x.under)
 
 -- "the shared length", "the length of the union, by arc"
 unfoldable pub shared : List Arc → List ℕ → List ℕ → ℕ
@@ -46,7 +46,7 @@ union arcs p q = length_of arcs (p ++ keep (λ a. not (has a p)) q)
 -- "Dissimilarity is one minus the shared length over the length of the union"
 unfoldable pub apart : List Arc → List ℕ → List ℕ → Fraction
 unfolding shared union
-apart arcs p q = record { top = union arcs p q - shared arcs p q; bottom = union arcs p q }
+apart arcs p q = record { over = union arcs p q - shared arcs p q; under = union arcs p q }
 
 -- "pairwise": of all pairs, the one of lower rank first.
 unfoldable pub pairwise : List Arc → List (List ℕ) → List Fraction
@@ -61,7 +61,7 @@ lower x y = cond (less y x) y x
 -- "least"; of no pair it is one, which no dissimilarity exceeds.
 unfoldable pub least : List Fraction → Fraction
 unfolding lower
-least [] = record { top = 1; bottom = 1 }
+least [] = record { over = 1; under = 1 }
 least (x ∷ xs) = lower x (least xs)
 
 -- What a rank past the list names: no choice has it, and its length is positive as that of every route.

@@ -1,9 +1,3 @@
-// A dissimilarity, as a fraction of whole numbers. The rest is definitions and laws: see specs/ and
-// proofs/.
 #![tactic(auto)]
 
-#[derive(Clone, Copy)]
-pub struct Fraction {
-    pub top: u64,
-    pub bottom: u64,
-}
+// Definitions and laws only: see specs/ and proofs/.

@@ -19,13 +19,13 @@ pub const NO_KEY: u64 = 9223372036854775808;
 
 // Where a node's record has its distance from s, the last arc of the route from s, the first arc of
 // the route to the goal, and its distance to the goal.
-const FORTH: usize = 12;
+pub const FORTH: usize = 12;
 
-const LAST: usize = 20;
+pub const LAST: usize = 20;
 
-const FIRST: usize = 28;
+pub const FIRST: usize = 28;
 
-const BACK: usize = 32;
+pub const BACK: usize = 32;
 
 // The distances and the first routes, from s and to the goal, over the arcs that are not closed.
 pub fn prepare(table: &[u8], second: &[u8], closed: &[u8], ask: Ask, room: &mut [u8])
@@ -63,10 +63,8 @@ pub fn line_up(table: &[u8], closed: &[u8], ask: Ask, room: &mut [u8]) -> usize
     let n = ask.nodes as usize;
     node_queue::fill(room, n, NO_KEY);
     let mut root = 0;
-    let mut v = 0;
-    while v < n {
+    for v in 0..n {
         root = key::enter(room, n, v, root);
-        v += 1;
     }
     root
 }
@@ -96,6 +94,6 @@ pub fn write(
     chain::write_to(table, closed, ask, room, v, slot, k);
     let end = chain::write_on(table, closed, ask, room, v, slot, k);
     let size = slot.len();
-    words::fill::fill32_part(slot, end, size, labels::field::NONE);
+    words::fill::fill_part(slot, end, size, labels::field::NONE);
     end
 }

@@ -1,20 +1,22 @@
 -- A node is judged by the overlap of its candidate, which is that of the two ways together. After all nodes below n each has the key that the definition gives it.
 use mathlib.Core.Path.{◌≡◌, refl, sym, ap, ap₂, subst, ◌∙◌}
+use mathlib.Core.Logic.{⊎_elim}
 use mathlib.Core.Bool.{Bool, true, false, ◌&&◌, cond}
 use mathlib.Core.List.{List, [], ◌∷◌}
-use Prim.Native.Nat.{ℕ, zero, suc, ◌+◌, ◌*◌, ◌≤◌, ◌<◌}
+use Prim.Native.Nat.{ℕ, zero, suc, min, ◌+◌, ◌*◌, ◌≤◌, ◌<◌}
 use native.Mathlib.Omega.{arith}
 use native.Mathlib.Nat.{mul-le-mul_left, mul-le-mul_right}
 use native.Mathlib.Decide.{ℕ_discrete}
 use lib.Dec.{ltb, leb, eqb}
 use lib.ListN.{length, get_or}
-use borrow.Author.Tests.{lt-ltb, le-ltb, le-leb, ltb-true, ne_eqb}
+use borrow.Author.Tests.{le-leb, ltb-true, ne_eqb}
 use Rattle.lists.specs.Tests.{every, keep, cons_if}
-use Rattle.net.specs.Route.{length_of, overlap, within}
+use Rattle.lists.proofs.Cases.{order}
+use Rattle.net.specs.Route.{length_of, within}
 use Rattle.net.specs.Limits.{most_arcs}
 use Rattle.net.proofs.Overlap.{overlap-append}
 use Rattle.table.specs.Table.{arcs_of}
-use Rattle.working_room.specs.Field.{long_at, Within}
+use Rattle.working_room.specs.Field.{Within}
 use Rattle.labels.specs.Field.{no_number}
 use Rattle.search_ask.specs.declared.Ask.{Ask}
 use Rattle.search_ask.specs.Ask.{net_for, query_for}
@@ -29,13 +31,6 @@ use Rattle.via_drop.proofs.BesideLaws.{beside_same, beside_trans, numbers-beside
 
 -- ---- whether a node has a candidate
 
-module _ (n : ℕ) (l : List ℕ) (v x : ℕ) (h : v < n) (is : x ≡ long_at 12 l v) where
-  pub both-both : (y : ℕ) → x < far → y ≡ long_at 32 l v → ltb y far ≡ both_in n l v
-  both-both y k e = rw (lt-ltb v n h, ← is, lt-ltb x far k, ← e)
-
-  pub both-not : far ≤ x → false ≡ both_in n l v
-  both-not k = rw (lt-ltb v n h, ← is, le-ltb x far k)
-
 and_both : (x y : Bool) → (x && y) ≡ true → (x ≡ true) × (y ≡ true)
 and_both true y e = (refl, e)
 and_both false y e = let z : ◌≡◌ {A = ℕ} 0 1 = cc in absurd (omega arith)
@@ -48,11 +43,25 @@ both-less n l v e false = ltb-true _ _ (and_both (ltb (dist_by false n l v) far)
 -- ---- the test
 
 -- a route that is long beyond every overlap
-pub within-far : (a b o len : ℕ) → b ≤ 1000 → o < 2 * far → 4503599627370496 ≤ len → leb (b * o) (a * 4503599627370496) ≡ leb (b * o) (a * len)
-within-far zero b o len h k g = ap (leb (b * o)) (omega arith)
-within-far (suc a) b o len h k g =
+long-enough : (a b o len : ℕ) → b ≤ 1000 → o < 2 * far → 4503599627370496 ≤ len
+    → leb (b * o) (a * 4503599627370496) ≡ leb (b * o) (a * len)
+long-enough zero b o len h k g = ap (leb (b * o)) (omega arith)
+long-enough (suc a) b o len h k g =
     le-leb (b * o) (suc a * 4503599627370496) (omega (arith, mul-le-mul_right {m = b} {n = 1000} o h, k))
     ∙ sym (le-leb (b * o) (suc a * len) (omega (arith, mul-le-mul_right {m = b} {n = 1000} o h, k, mul-le-mul_left (suc a) g)))
+
+-- so no more than that need be looked at
+pub within-far : (a b o len n : ℕ) → b ≤ 1000 → o < 2 * far → n ≡ min len 4503599627370496
+    → leb (b * o) (a * n) ≡ leb (b * o) (a * len)
+within-far a b o len n h k e = ⊎_elim short long (order len 4503599627370496)
+  where
+    short : len ≤ 4503599627370496 → leb (b * o) (a * n) ≡ leb (b * o) (a * len)
+    short g = ap (λ m. leb (b * o) (a * m)) (omega arith)
+
+    long : 4503599627370496 < len → leb (b * o) (a * n) ≡ leb (b * o) (a * len)
+    long g =
+        let most : n ≡ 4503599627370496 = omega arith in
+        ap (λ m. leb (b * o) (a * m)) most ∙ long-enough a b o len h k (omega arith)
 
 module _ (ask : Ask) (t e l : List ℕ) (v : ℕ) where
   key-none : both_in ask.nodes l v ≡ false → key_after ask t e l v ≡ key_at l v

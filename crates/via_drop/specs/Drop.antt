@@ -2,7 +2,6 @@
 use Rattle.std.specs.Prelude.{◌≡◌, true, cond, List, ℕ, ◌+◌, ◌*◌, ◌≤◌, ◌<◌, length}
 use Rattle.words.specs.Number.{num}
 use Rattle.working_room.specs.Field.{room_bytes}
-use Rattle.net.specs.Net.{Net}
 use Rattle.net.specs.Round.{Query}
 use Rattle.net.specs.Route.{within}
 use Rattle.node_queue.specs.Queue.{key_at, Queue}

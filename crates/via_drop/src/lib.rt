@@ -17,15 +17,10 @@ ghost use Rattle.via_chains.specs.Chains.{Prepared, both_in};
 ghost use Rattle.via_drop.specs.Drop.{Dropped};
 ghost use Rattle.via_drop.specs.Walks.{Blank, Begun, Dropping, Judged};
 
+use first_routes::FAR;
 use search_ask::Ask;
 
-// The offsets of the distances from s and to the goal in a node's record, and what stands for none.
-const FROM_S: usize = 12;
-
-const TO_GOAL: usize = 32;
-
-const FAR: u64 = 1099511627776;
-
+// Beyond 1,000 times every overlap, which is below 2 × `FAR`.
 const MOST: u64 = 4503599627370496;
 
 // The numbers of the first n nodes become unknown.
@@ -33,11 +28,9 @@ fn blank(room: &mut [u8], n: usize)
     requires { Roomy n room.old }
     ensures { Blank n room.old room.new }
 {
-    let mut v = 0;
-    while v < n {
+    for v in 0..n {
         working_room::put_long(room, walk::TO, v, walk::UNKNOWN);
         working_room::put_long(room, walk::ON, v, walk::UNKNOWN);
-        v += 1;
     }
 }
 
@@ -57,10 +50,8 @@ fn has_both(room: &[u8], n: usize, v: usize) -> bool
     requires { (Roomy n room.now) × (v < n) }
     ensures { result ≡ both_in n room.now v }
 {
-    if working_room::long(room, FROM_S, v) < FAR {
-        return working_room::long(room, TO_GOAL, v) < FAR;
-    }
-    false
+    working_room::long(room, via_chains::FORTH, v) < FAR
+        && working_room::long(room, via_chains::BACK, v) < FAR
 }
 
 // Whether an overlap is within the threshold of a route of that length. A length from `MOST` on is
@@ -71,10 +62,7 @@ fn is_within(ask: Ask, len: u64, overlap: u64) -> bool
 {
     let above = ask.a as u64;
     let below = ask.b as u64;
-    if len < MOST {
-        return below * overlap <= above * len;
-    }
-    below * overlap <= above * MOST
+    below * overlap <= above * len.min(MOST)
 }
 
 // Node v leaves the queue where its candidate is not within the threshold of the route in the slot,
@@ -158,10 +146,8 @@ pub fn near(
     search_driven::marks::mark_slot(table, &mut marks, route);
     begin(room, ask);
     let mut first = root;
-    let mut v = 0;
-    while v < n {
+    for v in 0..n {
         first = judge(table, ask, route, &marks, len, room, v, first);
-        v += 1;
     }
     first
 }

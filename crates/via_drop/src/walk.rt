@@ -11,59 +11,51 @@ ghost use Rattle.via_drop.specs.Walks.{number_at, put_number, arc_by, next_by, d
 ghost use Rattle.via_drop.specs.Walks.{unknown, total_by, share, Dropping};
 
 use search_ask::Ask;
+use via_chains::{FIRST, LAST};
 
-// The offsets of the numbers, and of the arcs, in a node's record.
+// The offsets of the numbers in a node's record, and what stands there for none.
 pub const TO: usize = 40;
 
 pub const ON: usize = 48;
 
-const LAST: usize = 20;
-
-const FIRST: usize = 28;
-
 pub const UNKNOWN: u64 = 18446744073709551615;
 
+#[tactic(auto, unfolding(crate::specs::Walks::number_at))]
 fn number(room: &[u8], on: bool, v: usize) -> u64
     requires { v * room_bytes + room_bytes ≤ length room.now }
     ensures { result ≡ number_at on room.now v }
 {
-    if on {
-        return working_room::long(room, ON, v);
-    }
-    working_room::long(room, TO, v)
+    working_room::long(room, if on { ON } else { TO }, v)
 }
 
+#[tactic(auto, unfolding(crate::specs::Walks::put_number))]
 fn put_number(room: &mut [u8], on: bool, v: usize, x: u64)
     requires { v * room_bytes + room_bytes ≤ length room.old }
     ensures { room.new ≡ put_number on room.old v x }
 {
-    if on {
-        working_room::put_long(room, ON, v, x);
-        return;
-    }
-    working_room::put_long(room, TO, v, x);
+    working_room::put_long(room, if on { ON } else { TO }, v, x);
 }
 
 // The arc by which the way goes on from v.
+#[tactic(auto, unfolding(crate::specs::Walks::arc_by))]
 fn arc_by(room: &[u8], on: bool, v: usize) -> u32
     requires { v * room_bytes + room_bytes ≤ length room.now }
     ensures { result ≡ arc_by on room.now v }
 {
-    if on {
-        return working_room::word(room, FIRST, v);
-    }
-    working_room::word(room, LAST, v)
+    working_room::word(room, if on { FIRST } else { LAST }, v)
 }
 
 // The node where the way comes to by an arc.
+#[tactic(auto, unfolding(crate::specs::Walks::next_by))]
 fn next_by(table: &[u8], on: bool, arc: usize) -> u32
     requires { arc < records table.now }
     ensures { result ≡ next_by on table.now arc }
 {
     if on {
-        return table::arc::to_of(table, arc);
+        table::arc::to_of(table, arc)
+    } else {
+        table::arc::from_of(table, arc)
     }
-    table::arc::from_of(table, arc)
 }
 
 // What an arc shares with the route in the slot, which is looked at only where the filter says that
@@ -75,9 +67,10 @@ fn share_of(table: &[u8], ask: Ask, slot: &[u32], marks: &[u64], arc: usize) -> 
     ensures { result ≡ share ask table.now (route_in slot.now) arc }
 {
     if search_driven::marks::may_drive(table, marks, arc) {
-        return search_driven::shared(table, ask, slot, arc);
+        search_driven::shared(table, ask, slot, arc)
+    } else {
+        0
     }
-    0
 }
 
 // The overlap of the way from v: along it to a node whose number is known.

@@ -18,7 +18,7 @@ use Rattle.outcome.specs.Outcome.{plain, found, fewer}
 use Rattle.net.specs.Limits.{most_routes}
 use Rattle.net.specs.Route.{length_of, within}
 use Rattle.net.specs.Round.{Query, within_all, Ending, answered, unanswered}
-use Rattle.net.specs.Outcome.{told, summary, summaries, not_begun}
+use Rattle.net.specs.Outcome.{summary, summaries, not_begun}
 use Rattle.net.proofs.Valid.{Valid}
 use Rattle.net.proofs.Listing.{partial-short}
 use Rattle.labels.specs.Field.{no_number}
@@ -64,7 +64,6 @@ pub record Midway (q : Query) (w k : ℕ) (area₀ room₀ area room : List ℕ)
   pub queue : Queue q.net.nodes room x.root
   pub gives : kept_of q k kept (candidates q.net q.s q.t room) ≡ profile q k
   pub keys : x.r < k → (v : ℕ) → v < q.net.nodes → key_at room v ≡ key_after q kept room v
-  pub going : x.going ≡ going_on x.r k room x.root
   pub area-is : area ≡ area_with w k area₀ kept
   pub area-long : length area ≡ length area₀
   pub room-long : length room ≡ length room₀
@@ -161,12 +160,12 @@ module _ (ask : Ask) (table closed : List ℕ) (ok : Accepted ask table) where
     root_below : root < ask.nodes
     root_below = m.queue.root.used
 
-    module _ (on : x.going ≡ true) where
+    module _ (on : going_on x.r k room x.root ≡ true) where
       pub below : x.r < k
-      below = ltb-true x.r k (and-true (ltb x.r k) (ltb (key_at room root) no_key) (sym m.going ∙ on)).0
+      below = ltb-true x.r k (and-true (ltb x.r k) (ltb (key_at room root) no_key) on).0
 
       key_left : key_at room root < no_key
-      key_left = ltb-true (key_at room root) no_key (and-true (ltb x.r k) (ltb (key_at room root) no_key) (sym m.going ∙ on)).1
+      key_left = ltb-true (key_at room root) no_key (and-true (ltb x.r k) (ltb (key_at room root) no_key) on).1
 
       tests : (both root ≡ true) × (within_all q m.kept (chain_by root) ≡ true)
       tests =
@@ -253,7 +252,6 @@ module _ (ask : Ask) (table closed : List ℕ) (ok : Accepted ask table) where
               queue = queue;
               gives = ap (kept_of q k more) same ∙ gives_more;
               keys = keys;
-              going = t.going;
               area-is = in-slots;
               area-long = same_area ∙ m.area-long;
               room-long = same-room ∙ m.room-long;
@@ -306,15 +304,15 @@ module _ (ask : Ask) (table closed : List ℕ) (ok : Accepted ask table) where
             absurd (omega (arith, is, key_below ask table closed room ok m.prepared v e.1, m.queue.root.least v (omega arith) e.0 e.0)))
             (λ i. i) (cases (within_all q m.kept (chain_by v)))
 
-    kept-all : x.going ≡ false → profile q k ≡ m.kept
+    kept-all : going_on x.r k room x.root ≡ false → profile q k ≡ m.kept
     kept-all off = ⊎_elim
         (λ e. sym m.gives ∙ kept_full q k m.kept (candidates q.net q.s q.t room) (omega (arith, ltb-false x.r k e, m.few, m.count)))
         (λ e. ⊎_elim
         (λ h. sym m.gives ∙ kept_full q k m.kept (candidates q.net q.s q.t room) (omega (arith, h, m.few, m.count)))
         (λ h. none_left h (ltb-false (key_at room root) no_key e)) (order k x.r))
-        (and-false (ltb x.r k) (ltb (key_at room root) no_key) (sym m.going ∙ off))
+        (and-false (ltb x.r k) (ltb (key_at room root) no_key) off)
 
-    module _ (off : x.going ≡ false) (few : k ≤ most_routes) where
+    module _ (off : going_on x.r k room x.root ≡ false) (few : k ≤ most_routes) where
       abbrev last : List Ending
       last = cond (ltb x.r k) (unanswered 0 ∷ []) []
 
@@ -354,9 +352,9 @@ module _ (ask : Ask) (table closed : List ℕ) (ok : Accepted ask table) where
 
   -- ---- the start
 
-  abbrev at_start : ℕ → Bool → Turn
-  at_start root going =
-      record { r = 0; root = root; sums = record { length = replicate most_routes 0; arcs = replicate most_routes 0; labels = replicate most_routes 0 }; going = going }
+  abbrev at_start : ℕ → Turn
+  at_start root =
+      record { r = 0; root = root; sums = record { length = replicate most_routes 0; arcs = replicate most_routes 0; labels = replicate most_routes 0 } }
 
   all-keys : (l : List ℕ) (v : ℕ) → key_for ask.nodes l v ≡ key_after q [] l v
   unfolding key_for within_all every
@@ -366,9 +364,9 @@ module _ (ask : Ask) (table closed : List ℕ) (ok : Accepted ask table) where
       go true n = refl
       go false n = refl
 
-  pub midway_start : (k : ℕ) (b room₁ area room : List ℕ) (root : ℕ) (going : Bool) → Begun ask table closed k b room₁ area room root
-      → going ≡ going_on 0 k room root → Midway q w k area room area room (at_start root going)
-  midway_start k b room₁ area room root going h on =
+  pub midway_start : (k : ℕ) (b room₁ area room : List ℕ) (root : ℕ) → Begun ask table closed k b room₁ area room root
+      → Midway q w k area room area room (at_start root)
+  midway_start k b room₁ area room root h =
       record {
         kept = [];
         count = refl;
@@ -377,7 +375,6 @@ module _ (ask : Ask) (table closed : List ℕ) (ok : Accepted ask table) where
         queue = h.queue;
         gives = profile-of ask table closed ok room h.prepared k;
         keys = λ i v j. h.keys v j ∙ all-keys room v;
-        going = on;
         area-is = h.area ∙ sym (area-again w k area b h.area []);
         area-long = refl;
         room-long = refl;

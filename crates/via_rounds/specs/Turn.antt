@@ -49,4 +49,3 @@ pub record Taken (q : Query) (w k : ℕ) (p area₀ room : List ℕ) (x : Turn) 
   pub sums : y.sums ≡ set_entry x.sums x.r (record { length = length_of q.net.arcs p; arcs = length p; labels = 0 })
   pub at_last : y.r ≡ k → (room' ≡ room) × (y.root ≡ x.root)
   pub before : y.r < k → Dropped q p room room' y.root
-  pub going : y.going ≡ going_on y.r k room' y.root

@@ -17,27 +17,21 @@ ghost use Rattle.via_chains.specs.Chains.{Prepared, joined_in, both_in};
 ghost use Rattle.via_rounds.specs.Turn.{Begun, going_on, Taking, Left, Taken};
 ghost use Rattle.via_rounds.specs.Profiled.{Profiling, Profiled};
 
-use outcome::Told;
+use node_queue::winner::KEY;
+use outcome::{Outcome, Told};
 use query_rounds::Got;
 use search_ask::Ask;
 use summary::Sums;
+use via_chains::{BACK, FORTH, NO_KEY};
 
-// Between two routes: how many were kept, the node whose candidate is the first left, the summaries,
-// and whether one more is to be kept (last, so that no padding stands before the summaries).
+// Between two routes: how many were kept, the node whose candidate is the first left, and the
+// summaries.
 #[derive(Drop)]
 struct Turn {
     r: usize,
     root: usize,
     sums: Sums,
-    going: bool,
 }
-
-// The fields of a node: its key, the distance from s and the distance to the goal.
-const KEY: usize = 0;
-
-const FROM_S: usize = 12;
-
-const TO_GOAL: usize = 32;
 
 // The length of the candidate of node v.
 fn length_at(room: &[u8], v: usize) -> u64
@@ -45,7 +39,7 @@ fn length_at(room: &[u8], v: usize) -> u64
         × (long_at 32 room.now v < far) }
     ensures { result ≡ long_at 12 room.now v + long_at 32 room.now v }
 {
-    working_room::long(room, FROM_S, v) + working_room::long(room, TO_GOAL, v)
+    working_room::long(room, FORTH, v) + working_room::long(room, BACK, v)
 }
 
 // Whether one more is to be kept after r of k, where `root` is the first left.
@@ -53,10 +47,7 @@ fn going_on(room: &[u8], root: usize, r: usize, k: usize) -> bool
     requires { root * room_bytes + room_bytes ≤ length room.now }
     ensures { result ≡ going_on r k room.now root }
 {
-    if r >= k {
-        return false;
-    }
-    working_room::long(room, KEY, root) < via_chains::NO_KEY
+    r < k && working_room::long(room, KEY, root) < NO_KEY
 }
 
 // The candidates that share too much with a kept route leave the queue, if that is not the last one.
@@ -79,9 +70,10 @@ fn drop_near(
         route.now room.old room.new root result }
 {
     if last {
-        return root;
+        root
+    } else {
+        via_drop::near(table, closed, ask, route, len, room, root)
     }
-    via_drop::near(table, closed, ask, route, len, room, root)
 }
 
 // The candidate of node v into slot r. How many arcs it has.
@@ -145,9 +137,8 @@ fn step(
     );
     Turn {
         r: r + 1,
-        root: root,
+        root,
         sums: summary::with(x.sums, r, len, m as u16, 0),
-        going: going_on(room, root, r + 1, k),
     }
 }
 
@@ -167,7 +158,7 @@ fn begin(
 {
     let w = ask.nodes as usize - 1;
     let end = k * w;
-    words::fill::fill32_part(area, 0, end, labels::field::NONE);
+    words::fill::fill_part(area, 0, end, labels::field::NONE);
     via_chains::prepare(table, second, closed, ask, room);
     via_chains::line_up(table, closed, ask, room)
 }
@@ -176,21 +167,19 @@ fn begin(
 fn tell(r: usize, k: usize) -> Told
     ensures { result ≡ plain (cond (ltb r k) fewer found) }
 {
-    if r < k {
-        return outcome::plain(outcome::FEWER);
-    }
-    outcome::plain(outcome::FOUND)
+    let outcome = if r < k {
+        Outcome::Fewer
+    } else {
+        Outcome::Found
+    };
+    outcome.plain()
 }
 
 // The summaries are an argument here, for a variable of their own is one more copy on the stack.
 fn got_of(told: Told, sums: Sums, n: usize) -> Got
     ensures { result ≡ record { told = told; sums = sums; n = n } }
 {
-    Got {
-        told: told,
-        sums: sums,
-        n: n,
-    }
+    Got { told, sums, n }
 }
 
 // k routes at most, in their slots, with their summaries; the working room is zero afterwards.
@@ -208,22 +197,14 @@ pub fn all(
         (width ask) k area.old room.old result area.new
         room.new }
 {
-    let root = begin(table, second, closed, ask, k, area, room);
-    let zeros = [0u64; summary::MOST_ROUTES];
-    let none = [0u16; summary::MOST_ROUTES];
     let mut x = Turn {
         r: 0,
-        root: root,
-        sums: Sums {
-            length: zeros,
-            arcs: none,
-            labels: none,
-        },
-        going: going_on(room, root, 0, k),
+        root: begin(table, second, closed, ask, k, area, room),
+        sums: Sums::NONE,
     };
-    while x.going {
+    while going_on(room, x.root, x.r, k) {
         x = step(table, closed, ask, k, area, room, x);
     }
-    words::fill::fill8(room, 0);
+    words::fill::fill(room, 0);
     got_of(tell(x.r, k), x.sums, k)
 }

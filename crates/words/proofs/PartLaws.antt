@@ -1,7 +1,7 @@
 -- A part changed, the rest of the whole unchanged; the same for slots. `back` and `lent` are what a call that lends a part leaves.
 use mathlib.Core.Path.{◌≡◌, ap, sym, ◌∙◌}
 use mathlib.Core.List.{List, ◌++◌, append_assoc}
-use mathlib.Core.Logic.{◌≢◌, ◌⊎◌, ⊎_elim}
+use mathlib.Core.Logic.{◌≢◌, ⊎_elim}
 use Prim.Native.Nat.{ℕ, suc, ◌+◌, ◌-◌, ◌*◌, ◌≤◌}
 use native.Mathlib.Nat.{mul-le-mul_right}
 use native.Mathlib.Omega.{arith}
@@ -12,14 +12,14 @@ use Rattle.words.specs.Part.{patch, slot}
 use Rattle.lists.proofs.Cases.{order}
 
 -- what comes back from `f(&mut l[a..e])`, where f left ys
-pub back : (a e : ℕ) (l ys : List ℕ) → a ≤ e → put_mid a (e - a) l ys ≡ patch a e l ys
+pub back : {X : Type 0} (a e : ℕ) (l ys : List X) → a ≤ e → put_mid a (e - a) l ys ≡ patch a e l ys
 unfolding patch
 back a e l ys h =
     let i : a + (e - a) ≡ e = omega arith in
     rw (drop-drop, i)
 
 -- how many were lent
-pub lent : (a e : ℕ) (l : List ℕ) → a ≤ e → e ≤ length l → length (mid_of a (e - a) l) ≡ e - a
+pub lent : {X : Type 0} (a e : ℕ) (l : List X) → a ≤ e → e ≤ length l → length (mid_of a (e - a) l) ≡ e - a
 lent a e l h g = length-take-le (e - a) (drop a l) (simp length-drop (omega arith))
 
 -- ---- laws of a patch of as many elements as it takes the place of

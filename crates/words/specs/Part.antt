@@ -2,7 +2,7 @@
 use Rattle.std.specs.Prelude.{List, ◌++◌, ℕ, ◌*◌, take, drop}
 
 -- ys in the place of the elements from a to e
-unfoldable pub patch : ℕ → ℕ → List ℕ → List ℕ → List ℕ
+unfoldable pub patch : {X : Type 0} → ℕ → ℕ → List X → List X → List X
 patch a e l ys = take a l ++ (ys ++ drop e l)
 
 -- the slot number r, from 0, of w elements

@@ -1,5 +1,5 @@
 -- What is kept after the whole text was fed is that of the text.
-use mathlib.Core.Path.{◌≡◌, ap, ◌∙◌}
+use mathlib.Core.Path.{ap, ◌∙◌}
 use lib.ListN.{replicate}
 use borrow.Author.Rules.{rules}
 use Rattle.desk_feed.specs.Taken.{first_bytes, table_bytes, state, state_from, state_of}

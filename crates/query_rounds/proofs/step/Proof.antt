@@ -17,13 +17,14 @@ use Rattle.search_ask.specs.Earlier.{earlier_in}
 use Rattle.search_ask.proofs.AskLaws.{accepted-valid, few-arcs, nodes-most, lengths-most}
 use Rattle.round_label.specs.Lists.{Blank}
 use Rattle.round.specs.Round.{Rounded}
+use Rattle.query_rounds.specs.declared.Stage.TheVariants.{GoesOn}
 use Rattle.query_rounds.specs.Progress.{Progress, progress}
 use Rattle.query_rounds.proofs.ProgressLaws.{Stepping, lens-long, earlier-lent, stepped-after, small-after, stepped-rows}
 use Rattle.query_rounds.proofs.step.Statement.{statement}
 use Rattle.query_rounds.proofs.step.Tie as tie
 
 abbrev before : tie.Start → Progress
-before s = progress s.args.r 0 s.args.lens.now s.args.arcs.now s.args.counts.now
+before s = progress s.args.r GoesOn s.args.lens.now s.args.arcs.now s.args.counts.now
 
 -- ---- at the place after the round
 

@@ -9,7 +9,7 @@ use Rattle.net.specs.Route.{length_of}
 use Rattle.table.specs.Table.{arcs_of}
 use Rattle.ratios.specs.Ratios.{quotient}
 use Rattle.ratios.specs.Routes.{route_at}
-use Rattle.ratios.specs.declared.Fraction.{Fraction}
+use Rattle.products.specs.declared.Fraction.{Fraction}
 use Rattle.ratios.specs.declared.Ratios.{Ratios}
 use Rattle.ratios.proofs.RouteLaws.{small_is, best, greatest-small, first-route}
 use Rattle.ratios.proofs.of.Statement.{statement}

@@ -43,7 +43,7 @@ s-fits s = omega (arith, s.requires.0.accepted.s-below, nodes-most s.requires.0.
 returns : tie.Need-returns-then-labels-eq0
 returns c =
     let s = c.before.before.before.before.before.before.before.before in
-    (begun-refused (query s) (earlier s) (accepted-valid s.requires.0.accepted s.args.closed.now s.args.labels.now) (few s) s.args.labels.now (omega arith), record { around = but_same _ _ _; listed = λ e. absurd (omega arith); runs = λ e. absurd (omega arith) }, s.requires.3)
+    (begun-refused (query s) (earlier s) (accepted-valid s.requires.0.accepted s.args.closed.now s.args.labels.now) (few s) s.args.labels.now (omega arith), record { around = but_same _ _ _; listed = λ e. absurd (cc); runs = λ e. absurd (cc) }, s.requires.3)
 
 put-head-requires : tie.Need-put_head-requires
 put-head-requires c κs =

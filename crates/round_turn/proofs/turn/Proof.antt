@@ -3,7 +3,6 @@
 -- changes working bytes alone. What is taken up does not end at s, since the first label would cover it.
 use native.Mathlib.Omega.{arith}
 use borrow.Author.Rules.{rules}
-use borrow.Author.Tests.{not-true, not-false}
 use mathlib.Core.Path.{◌≡◌, sym, ap, subst, ◌∙◌}
 use mathlib.Core.List.{List, []}
 use mathlib.Core.Bool.{true}
@@ -242,7 +241,7 @@ entering g =
 returns : tie.Need-returns-then-arc-eq-NO_ARC
 returns c =
     let s = start c.before in
-    (turned_none (query s) (earlier s) (valid s) (bytes s) s.args.x s.requires.2 s.requires.1 (lengths-most s.requires.0.accepted) s.requires.3 (sym c.cursor-arc.ensures ∙ c.if-arc-eq-NO_ARC.true), record { around = but_same _ _ _; listed = λ e. absurd (omega arith); runs = λ e. absurd (omega arith) }, s.requires.7)
+    (turned_none (query s) (earlier s) (valid s) (bytes s) s.args.x s.requires.2 s.requires.1 (lengths-most s.requires.0.accepted) s.requires.3 (sym c.cursor-arc.ensures ∙ c.if-arc-eq-NO_ARC.true), record { around = but_same _ _ _; listed = λ e. absurd (cc); runs = λ e. absurd (cc) }, s.requires.7)
 
 of-candidate-requires : tie.Need-of_candidate-requires
 of-candidate-requires c κs =
@@ -290,7 +289,7 @@ returns-3 c =
     let s = from e in (
       turned-refused (query s) (earlier s) (valid s) (bytes s) s.args.x s.requires.2 s.requires.1 (lengths-most s.requires.0.accepted) s.requires.3 (candidate e).arc e.cursor-arc.ensures e.if-arc-eq-NO_ARC.false
           (passed c.before) c.if-room-n.true (moved u) u.settle-k.ensures.0,
-      record { around = but_same _ _ _; listed = λ z. absurd (omega arith); runs = λ z. absurd (omega arith) },
+      record { around = but_same _ _ _; listed = λ z. absurd (cc); runs = λ z. absurd (cc) },
       u.settle-k.ensures.3,
     )
 
@@ -313,7 +312,7 @@ returns-4 c =
       turned-answer (query s) (earlier s) (valid s) (bytes s) s.args.x s.requires.2 s.requires.1 (lengths-most s.requires.0.accepted) s.requires.3 (candidate e).arc e.cursor-arc.ensures e.if-arc-eq-NO_ARC.false
           (passed g.before) (roomy g) (moved u) u.settle-k.ensures.0 (sym (end-of (tested u)) ∙ h.if-end-goal.true) _
           (t.take_up.ensures ∙ ap (λ os. put_row (moved u) s.args.x.n (row_for (arcs_of s.args.table.now) s.args.ask.s (moved u) (candidate e) os)) (own-moved u)),
-      record { around = but_same _ _ _; listed = λ z. absurd (omega arith); runs = λ z. absurd (omega arith) },
+      record { around = but_same _ _ _; listed = λ z. absurd (cc); runs = λ z. absurd (cc) },
       u.settle-k.ensures.3,
     )
 

@@ -7,7 +7,6 @@ use native.Mathlib.Nat.{sub-zero}
 use native.Mathlib.Omega.{arith}
 use borrow.Author.Rules.{rules}
 use lib.ListN.{length, take}
-use Rattle.net.specs.Search.{passes}
 use Rattle.table.proofs.FaultLaws.{all-good}
 use Rattle.labels.specs.Field.{most_earlier}
 use Rattle.labels.specs.Rows.{overlaps_of}

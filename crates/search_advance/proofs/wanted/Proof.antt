@@ -2,7 +2,6 @@
 use mathlib.Core.Path.{◌≡◌, sym, ◌∙◌}
 use mathlib.Core.Logic.{⊎_elim}
 use mathlib.Core.Bool.{true}
-use borrow.Author.Tests.{not-true, not-false}
 use Rattle.table.specs.Table.{arcs_of}
 use Rattle.search_advance.specs.Own.{after_arc}
 use Rattle.search_advance.proofs.OwnLaws.{after_none, after-some, before-none, before-some, wanted-both, wanted-not-after, wanted-not-before}

@@ -1,7 +1,6 @@
 -- Where the route drives the arc's road the arc adds its length, which the table has, and else nothing.
 use mathlib.Core.Path.{sym, ◌∙◌}
 use Prim.Native.Nat.{◌≤◌}
-use native.Mathlib.Omega.{arith}
 use borrow.Author.Rules.{rules}
 use Rattle.net.specs.Limits.{most_arcs}
 use Rattle.table.specs.Table.{records}

@@ -52,13 +52,13 @@ write-on-requires c κs =
     let s = start a in
     (ready s, s.requires.2, (near s).1, omega (arith, a.arcs-k.ensures, fits s, w.write_to.auto.slot))
 
-fill32-part-requires : tie.Need-fill32_part-requires
-fill32-part-requires c κs =
+fill-part-requires : tie.Need-fill_part-requires
+fill-part-requires c κs =
     let o = c in
     let w = written o.before.before.before.before in
     let a = w.before.before in
     let s = start a in
-    (omega (arith, o.write_on-end.ensures.0, o.write_on-end.ensures.1, a.arcs-k.ensures, fits s, w.write_to.auto.slot), omega arith)
+    (search rules, (omega (arith, o.write_on-end.ensures.0, o.write_on-end.ensures.1, a.arcs-k.ensures, fits s, w.write_to.auto.slot), omega arith))
 
 returns : tie.Need-returns
 unfolding joined_in
@@ -69,7 +69,7 @@ returns c =
     let a = w.before.before in
     let s = start a in (
       slot-filled (to s) (on s) s.args.slot.now w.write_to.new.slot o.write_on-end.new.slot _ a.arcs-k.result o.write_on-end.result a.arcs-k.ensures
-          w.write_to.ensures w.write_to.auto.slot o.write_on-end.ensures.0 o.write_on-end.ensures.1 o.write_on-end.ensures.2 f.fill32_part.ensures,
+          w.write_to.ensures w.write_to.auto.slot o.write_on-end.ensures.0 o.write_on-end.ensures.1 o.write_on-end.ensures.2 f.fill_part.ensures,
       omega (arith, o.write_on-end.ensures.0, a.arcs-k.ensures, length-append (to s) (on s)),
     )
 
@@ -80,6 +80,6 @@ write_spec =
     arcs-requires
     write-to-requires
     write-on-requires
-    fill32-part-requires
+    fill-part-requires
     (λ c. search rules)
     returns)

@@ -5,7 +5,6 @@ use mathlib.Core.Bool.{true, false}
 use Prim.Native.Nat.{◌<◌}
 use native.Mathlib.Omega.{arith}
 use borrow.Author.Rules.{rules}
-use borrow.Author.Tests.{not-true, not-false}
 use Rattle.working_room.specs.Field.{Within}
 use Rattle.working_room.proofs.RoomLaws.{within-trans}
 use Rattle.search_ask.specs.Earlier.{route_in}

@@ -32,7 +32,7 @@ returns c =
     let b = queue-beside l m u.ensures.0 in
     let net = net_for s.args.ask s.args.table.now s.args.closed.now in
     record {
-      area = p.fill32_part.ensures ∙ area-blank (width s.args.ask) s.args.k s.args.area.now;
+      area = p.fill_part.ensures ∙ area-blank (width s.args.ask) s.args.k s.args.area.now;
       long = b.long ∙ p.prepare.ensures.0;
       prepared = prepared-beside net s.args.ask.s s.args.ask.goal l m b.field b.long p.prepare.ensures.1;
       queue = u.ensures.1;

@@ -19,7 +19,7 @@ use Rattle.via_chains.specs.Chains.{joined_in}
 use Rattle.via_rounds.specs.Turn.{Left}
 use Rattle.via_rounds.proofs.CandidatesLaws.{read-near, candidate-length, candidate-arcs}
 use Rattle.query_rounds.proofs.SlotLaws.{slot-again}
-use Rattle.via_rounds.proofs.LeftLaws.{record-in, left-queue, not_last, sums_same}
+use Rattle.via_rounds.proofs.LeftLaws.{record-in, not_last, sums_same}
 use Rattle.via_rounds.proofs.step.Statement.{statement}
 use Rattle.via_rounds.proofs.step.Tie as tie
 
@@ -122,15 +122,10 @@ left c =
     subst (λ p. Left (query_for s.args.ask s.args.table.now s.args.closed.now []) (eqb (s.args.x.r + 1) s.args.k) p s.args.room.now (room-left c) s.args.x.root c.drop_near-root.result)
     (lent_is u) c.drop_near-root.ensures
 
-going-on-requires : tie.Need-going_on-requires
-going-on-requires c κs =
-    let d = c.before.before.before.before in
-    record-in (left-queue _ _ _ _ _ _ _ (left d) (start (put (written d))).requires.queue)
-
 returns : tie.Need-returns
 returns c =
     let h = c in
-    let d = h.before.before.before.before.before in
+    let d = h.before.before.before.before in
     let a = put (written d) in
     let s = start a in
     let l = left d in
@@ -140,7 +135,6 @@ returns c =
       sums = h.with.ensures ∙ sums_same s.args.x.sums s.args.x.r _ _ _ _ (len_is a) a.put-m.ensures.1;
       at_last = λ e. l.at_last (eq-eqb (s.args.x.r + 1) s.args.k e);
       before = λ e. l.before (not_last s.args.x.r s.args.k e);
-      going = c.going_on.ensures;
     }
 
 -- a route has fewer arcs than there are nodes
@@ -168,8 +162,6 @@ step_spec =
     (λ c. search rules)
     cast-with
     (λ c κs. search rules)
-    (λ c. search rules)
-    going-on-requires
     (λ c. search rules)
     (λ c. search rules)
     returns)

@@ -19,7 +19,7 @@ invariant-loop-j b n i s₀ k₀ j₀ s k j =
 abbrev decreases-loop-j : tie.decreases-loop-j
 decreases-loop-j b n i s₀ k₀ j₀ s k j = j
 
-abbrev filled : tie.At-loop-j invariant-loop-j decreases-loop-j → tie.After-fill32 invariant-loop-j decreases-loop-j
+abbrev filled : tie.At-loop-j invariant-loop-j decreases-loop-j → tie.After-fill invariant-loop-j decreases-loop-j
 filled a = a.before.before.before.before
 
 abbrev start : tie.At-loop-j invariant-loop-j decreases-loop-j → tie.Start invariant-loop-j decreases-loop-j
@@ -40,12 +40,12 @@ lower c =
 loop-holds : tie.Need-loop-j-init invariant-loop-j decreases-loop-j
 loop-holds c =
     let f = c.before.before.before in
-    (search rules, c.arcs-k.ensures, omega (arith, f.fill32.auto.b, f.before.before.before.before.requires.2), refl, cc)
+    (search rules, c.arcs-k.ensures, omega (arith, f.fill.auto.b, f.before.before.before.before.requires.2), refl, cc)
 
 mul-slot : tie.Need-offset_bounds-slot-k invariant-loop-j decreases-loop-j
 mul-slot c =
     let a = c.before.before in
-    omega (arith, a.loop-j.invariant.2, (filled a).fill32.auto.b, (start a).well_formed.1.1.1.0.1)
+    omega (arith, a.loop-j.invariant.2, (filled a).fill.auto.b, (start a).well_formed.1.1.1.0.1)
 
 loop-again : tie.Need-loop-j-preserved invariant-loop-j decreases-loop-j
 loop-again c =
@@ -68,8 +68,8 @@ returns c =
     let a = c.before in
     let s = start a in
     let n = chain-none s.args.labels.now a.loop-j.j c.loop-j-test.false in
-    back_done (chain_at s.args.labels.now s.args.label) a.loop-j.slot (filled a).fill32.new.b (length s.args.slot.now) no_number a.loop-j.k
-    (filled a).fill32.ensures (omega (arith, ap length n)) (rw n at a.loop-j.invariant.4)
+    back_done (chain_at s.args.labels.now s.args.label) a.loop-j.slot (filled a).fill.new.b (length s.args.slot.now) no_number a.loop-j.k
+    (filled a).fill.ensures (omega (arith, ap length n)) (rw n at a.loop-j.invariant.4)
 
 pub write_spec : {M : Type 1} → statement M
 write_spec =

@@ -37,8 +37,8 @@ lowest-requires c κs =
       s.requires.0,
       room-roomy s.args.table.now s.args.nodes s.args.w s.args.n s.args.list.now s.requires.0 s.args.room.now s.requires.1 s.args.r s.requires.4 _ o.slot-one.ensures _ p.length-size.ensures _ p.put_marks.ensures,
       s.requires.2,
-      s.requires.3.top-few,
-      s.requires.3.bottom-few,
+      s.requires.3.over-few,
+      s.requires.3.under-few,
       k.0,
       k.1,
     )

@@ -54,7 +54,7 @@ returns c =
     let f = n in
     let p = prepared a.before.before in
     let s = start p in
-    made_found (query s) s.args.area.now s.args.room.now (width s.args.ask) refl _ _ a.pair-x.result a.pair-x.ensures (f.fill8.ensures ∙ ap (λ n. replicate n 0) p.prepare.ensures.0)
+    made_found (query s) s.args.area.now s.args.room.now (width s.args.ask) refl _ _ a.pair-x.result a.pair-x.ensures (f.fill.ensures ∙ ap (λ n. replicate n 0) p.prepare.ensures.0)
     c.got_of.result c.got_of.ensures
 
 -- ---- none
@@ -67,8 +67,8 @@ returns-2 c =
     let p = e.before.before.before.before.before.before.before.before.before.before.before.before in
     let s = start p in
     let no-pair = prepared-false _ _ _ _ _ p.prepare.ensures.1 e.if-prepare.false in
-    made_none (query s) s.args.area.now s.args.room.now (width s.args.ask) no-pair.0 no-pair.1 _ _ (b.fill32_part.ensures ∙ area-blank (width s.args.ask) 2 s.args.area.now)
-    (f.fill8-2.ensures ∙ ap (λ n. replicate n 0) p.prepare.ensures.0) c.none_got.result c.none_got.ensures
+    made_none (query s) s.args.area.now s.args.room.now (width s.args.ask) no-pair.0 no-pair.1 _ _ (b.fill_part.ensures ∙ area-blank (width s.args.ask) 2 s.args.area.now)
+    (f.fill-2.ensures ∙ ap (λ n. replicate n 0) p.prepare.ensures.0) c.none_got.result c.none_got.ensures
 
 pub all_spec : {M : Type 1} → statement M
 all_spec =

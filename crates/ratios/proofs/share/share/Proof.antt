@@ -9,7 +9,7 @@ use mir.Val.{Fits}
 use borrow.Author.Rules.{rules}
 use Rattle.search_ask.proofs.AskLaws.{nodes-least, nodes-most}
 use Rattle.ratios.specs.Routes.{Arcs, route_at}
-use Rattle.ratios.specs.declared.Fraction.{Fraction}
+use Rattle.products.specs.declared.Fraction.{Fraction}
 use Rattle.ratios.proofs.RouteLaws.{slot-within, route-short, overlap-is}
 use Rattle.ratios.proofs.share.share.Statement.{statement}
 use Rattle.ratios.proofs.share.share.Tie as tie

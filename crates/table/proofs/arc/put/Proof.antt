@@ -1,5 +1,4 @@
 -- Where there is such a record `write` makes it; where there is none `with_record` gives the bytes as they are.
-use native.Mathlib.Omega.{arith}
 use borrow.Author.Rules.{rules}
 use mathlib.Core.Path.{◌≡◌, sym, ◌∙◌}
 use mathlib.Core.List.{List}

@@ -1,6 +1,5 @@
 -- A number that is known is what is left; else what the arc shares is taken off.
 use mathlib.Core.Logic.{⊎_elim}
-use native.Mathlib.Omega.{arith}
 use borrow.Author.Rules.{rules}
 use Rattle.via_drop.proofs.walk.rest.Statement.{statement}
 use Rattle.via_drop.proofs.walk.rest.Tie as tie

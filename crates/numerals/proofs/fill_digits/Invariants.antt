@@ -1,0 +1,7 @@
+-- Before a turn the digits of w, which are yet to be written, and then what stands in s from k on, are the digits of v. A turn writes the last digit of w;
+-- after the last turn, at which w is the one digit left, s is all of them.
+use Rattle.numerals.proofs.WriteLaws.{Left}
+use Rattle.numerals.proofs.fill_digits.Given as goal
+
+abbrev pub invariant-loop-k : goal.invariant-loop-k
+invariant-loop-k l = Left l.s l.v l.w l.k
