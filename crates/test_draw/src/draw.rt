@@ -1,5 +1,5 @@
 // Draws: a number is settled by the number of the case and of the draw.
-ghost use Rattle.std.specs.Prelude.{◌≤◌, ◌-◌};
+ghost use Rattle.std.specs.Prelude.{◌≡◌, ◌⊎◌, ◌≤◌, ◌<◌, ◌-◌, true};
 
 use std::ops::Range;
 
@@ -32,13 +32,31 @@ pub fn below(case: usize, draw: usize, n: usize) -> usize
 }
 
 // One time in n.
-pub fn once_in(case: usize, draw: usize, n: usize) -> bool {
+pub fn once_in(case: usize, draw: usize, n: usize) -> bool
+    ensures { n ≤ 1 → result ≡ true }
+{
     below(case, draw, n) == 0
 }
 
-// One time in n, by that draw, one of the few, and else one of the more; which one, by the next draw.
-pub fn either(case: usize, draw: usize, n: usize, few: Range<usize>, more: Range<usize>) -> usize {
-    let range = if once_in(case, draw, n) { few } else { more };
+// One of the range, by that draw.
+#[tactic(auto, unfolding(test_cells::specs::Bounded::sum))]
+fn one_of(case: usize, draw: usize, range: Range<usize>) -> usize
+    ensures { (range.start < range.end) → (range.end ≤ 65536)
+        → (range.start ≤ result) × (result < range.end) }
+{
     let count = range.end.saturating_sub(range.start);
-    test_cells::add(below(case, test_cells::add(draw, 1), count), range.start)
+    test_cells::add(below(case, draw, count), range.start)
+}
+
+// One time in n, by that draw, one of the few, and else one of the more; which one, by the next draw.
+pub fn either(case: usize, draw: usize, n: usize, few: Range<usize>, more: Range<usize>) -> usize
+    ensures { (few.start < few.end) → (few.end ≤ 65536) → (more.start < more.end) → (more.end ≤ 65536)
+        → ((few.start ≤ result) × (result < few.end)) ⊎ ((more.start ≤ result) × (result < more.end)) }
+{
+    let next = test_cells::add(draw, 1);
+    if once_in(case, draw, n) {
+        one_of(case, next, few)
+    } else {
+        one_of(case, next, more)
+    }
 }

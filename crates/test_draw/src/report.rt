@@ -1,4 +1,6 @@
 // The tally, and the first difference in full.
+ghost use Rattle.std.specs.Prelude.{◌≢◌, IsTrue};
+
 use crate::cells;
 
 pub fn row(name: &[u8], cells: &[usize]) {
@@ -25,7 +27,9 @@ pub fn difference(of: &[usize], due: &[usize], got: &[usize]) {
 }
 
 // Counts, in that cell of the tally, a call that gave something else than is due. Is it the first?
-pub fn differs(tally: &mut [usize], cell: usize, due: &[usize], got: &[usize]) -> bool {
+pub fn differs(tally: &mut [usize], cell: usize, due: &[usize], got: &[usize]) -> bool
+    ensures { IsTrue result → due.now ≢ got.now }
+{
     let differs = due != got;
     let first = test_cells::get(tally, cell) == 0;
     cells::count(tally, cell, differs as usize);

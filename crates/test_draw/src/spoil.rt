@@ -1,4 +1,6 @@
 // Faults: each is one cell of a case made wrong.
+ghost use Rattle.std.specs.Prelude.{◌≡◌, ◌<◌, ◌≤◌, ◌↔◌, ◌⊎◌, IsSome};
+
 use crate::cells;
 use crate::draw::{below, rest};
 
@@ -11,7 +13,9 @@ pub struct Fault {
 
 // What an arc's number becomes, where it is one of these: a node past the last, the arc's own start
 // node, a length out of bounds, a start node below the one before, or no closure byte.
-fn of_arc(case: &[usize], kind: usize, arc: usize) -> Option<Fault> {
+fn of_arc(case: &[usize], kind: usize, arc: usize) -> Option<Fault>
+    ensures { IsSome result ↔ (kind < 7) }
+{
     let (j, value) = match kind {
         0 => (cells::FROM, test_cells::get(case, cells::NODES)),
         1 => (cells::TO, 4294967295),
@@ -27,7 +31,9 @@ fn of_arc(case: &[usize], kind: usize, arc: usize) -> Option<Fault> {
 }
 
 // Those of the call that all programs have.
-fn of_call(case: &[usize], kind: usize) -> Option<Fault> {
+fn of_call(case: &[usize], kind: usize) -> Option<Fault>
+    ensures { IsSome result ↔ ((7 ≤ kind) × (kind < 16) ⊎ (kind ≡ 18)) }
+{
     let arcs = test_cells::get(case, cells::ARC_COUNT);
     let (cell, value) = match kind {
         7 => (cells::NODES, 0),
@@ -50,7 +56,9 @@ fn of_call(case: &[usize], kind: usize) -> Option<Fault> {
 
 // The fault of that kind, of the arc or of the call; 16 and 17, and those from 19 on, are left to the
 // programs.
-pub fn of_kind(case: &[usize], kind: usize, arc: usize) -> Option<Fault> {
+pub fn of_kind(case: &[usize], kind: usize, arc: usize) -> Option<Fault>
+    ensures { IsSome result ↔ ((kind < 16) ⊎ (kind ≡ 18)) }
+{
     of_arc(case, kind, arc).or(of_call(case, kind))
 }
 
