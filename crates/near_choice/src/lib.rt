@@ -36,7 +36,7 @@ fn whole(
         best.new result }
 {
     if hope(known, least) {
-        best.copy_from_slice(ranks);
+        route_list::copy(ranks, best);
         return Some(least);
     }
     known

@@ -19,7 +19,7 @@ fn put_route(list: &[u32], w: usize, r: usize, area: &mut [u32], j: usize)
 {
     let at = j * w;
     let end = at + w;
-    area[at..end].copy_from_slice(route_list::slot(list, w, r));
+    route_list::copy(route_list::slot(list, w, r), &mut area[at..end]);
 }
 
 // The routes of these ranks written to the area's first slots.

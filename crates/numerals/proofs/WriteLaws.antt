@@ -39,42 +39,34 @@ module _ (s : List ℕ) (w k : ℕ) (n : k ≡ length (decimal w)) where
       front [] q = absurd (omega arith)
       front (x ∷ l) q = refl
 
--- ---- the turns of a loop over the places, from the last to the first: k places are left, and the digits of w are for them
+-- ---- the turns of a loop over the places but the first, from the last on: k places are left, and the digits of w are for them
 
 pub record Left (s : List ℕ) (v w k : ℕ) : Type 0 where
   pub less : w ≤ v
-  pub as_many : 0 < k → k ≡ length (decimal w)
-  pub whole : 0 < k → decimal w ++ drop k s ≡ decimal v
-  pub done : k ≡ 0 → s ≡ decimal v
+  pub as_many : k ≡ length (decimal w)
+  pub whole : decimal w ++ drop k s ≡ decimal v
 
 pub left_start : (s : List ℕ) (v : ℕ) → length s ≡ length (decimal v) → Left s v v (length s)
-left_start s v e = record {
-  less = omega arith;
-  as_many = λ h. e;
-  whole = λ h. back_start (decimal v) s;
-  done = λ h. absurd (omega (arith, decimal-length v));
-}
+left_start s v e = record { less = omega arith; as_many = e; whole = back_start (decimal v) s }
 
-pub left-less : (s : List ℕ) (v w k : ℕ) → Left s v w k → 0 < k → k ≤ length s → v < 2 ^ 64 → Left (set s (k - 1) (48 + w % 10)) v (w / 10) (k - 1)
+pub left-less : (s : List ℕ) (v w k : ℕ) → Left s v w k → 1 < k → k ≤ length s → v < 2 ^ 64 → Left (set s (k - 1) (48 + w % 10)) v (w / 10) (k - 1)
 left-less s v w k a p r h =
-    let e : decimal w ++ drop k s ≡ decimal v = a.whole p in
-    let n : k ≡ length (decimal w) = a.as_many p in
     ⊎_elim
-    (λ z.
-    let o : k ≡ 1 = omega (arith, n, ap length (decimal-one w (omega arith))) in
-    let m : w % 10 ≡ w = omega arith in
-    record {
+    (λ z. absurd (omega (arith, a.as_many, ap length (decimal-one w (omega arith)))))
+    (λ z. record {
       less = omega (arith, a.less);
-      as_many = λ g. absurd (omega arith);
-      whole = λ g. absurd (omega arith);
-      done = λ g. rw (m, o) (write-last s w k n (omega arith) (omega arith) ∙ e);
-    })
-    (λ z.
-    let l : k ≡ 1 + length (decimal (w / 10)) = write-less s w k n z (omega (arith, a.less)) in
-    record {
-      less = omega (arith, a.less);
-      as_many = λ g. omega (arith, l);
-      whole = λ g. write_step s w k n z (omega (arith, a.less)) r ∙ e;
-      done = λ g. absurd (omega (arith, l, decimal-length (w / 10)));
+      as_many = omega (arith, write-less s w k a.as_many z (omega (arith, a.less)));
+      whole = write_step s w k a.as_many z (omega (arith, a.less)) r ∙ a.whole;
     })
     (order w 9)
+
+-- one place is left for one digit
+pub left-one : (s : List ℕ) (v w k : ℕ) → Left s v w k → k ≤ 1 → v < 2 ^ 64 → w < 10
+left-one s v w k a o h =
+    ⊎_elim
+    (λ z. omega arith)
+    (λ z. absurd (omega (arith, write-less s w k a.as_many z (omega (arith, a.less)), decimal-length (w / 10))))
+    (order w 9)
+
+pub left-last : (s : List ℕ) (v w k : ℕ) → Left s v w k → k ≤ 1 → v < 2 ^ 64 → 1 ≤ length s → set s 0 (48 + w) ≡ decimal v
+left-last s v w k a o h r = write-last s w k a.as_many (left-one s v w k a o h) r ∙ a.whole

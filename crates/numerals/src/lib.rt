@@ -85,10 +85,11 @@ fn fill_digits(s: &mut [u8], v: u64)
     ensures { s.new ≡ decimal v }
 {
     let mut w = v;
-    for k in (0..s.len()).rev() {
+    for k in (1..s.len()).rev() {
         s[k] = b'0' + (w % 10) as u8;
         w /= 10;
     }
+    s[0] = b'0' + w as u8;
 }
 
 // The digits of v at place `at`, where there is room for them; the place after them.

@@ -2,7 +2,7 @@
 #![tactic(auto)]
 
 ghost use Rattle.std.specs.Prelude.{◌≡◌};
-ghost use Rattle.road_made.specs.Made.{numbers_of};
+ghost use Rattle.road_made.specs.Made.{answer_of, numbers_of};
 
 use outcome::{Outcome, Refusal, Told};
 
@@ -25,7 +25,7 @@ pub struct MadeNumbers {
 }
 
 impl From<Result<Made, Refusal>> for MadeNumbers {
-    ghost from_gives = { λ answer numbers. numbers ≡ numbers_of answer };
+    ghost from_gives = { λ made numbers. numbers ≡ numbers_of (answer_of made) };
 
     fn from(answer: Result<Made, Refusal>) -> MadeNumbers {
         match answer {

@@ -9,7 +9,8 @@ use native.Mathlib.Omega.{arith}
 use lib.Dec.{leb, ltb}
 use lib.ListN.{length, drop}
 use borrow.Author.Tests.{lt-leb, le-leb, lt-ltb, le-ltb}
-use Rattle.std.proofs.Common.{Ok, Err}
+use Rattle.std.proofs.Common.{Result, Ok, Err}
+use Rattle.outcome.specs.declared.Told.{Told}
 use Rattle.outcome.specs.declared.Refusal.{Refusal}
 use Rattle.outcome.specs.Outcome.{file, buffers, size, plain, beside, told_of}
 use Rattle.outcome.proofs.OutcomeLaws.{refused_not_zero}
@@ -27,7 +28,7 @@ use Rattle.road_file.proofs.EndLaws.{ended-good, ended-wrong}
 use Rattle.road_file.proofs.SmallLaws.{said-small}
 use Rattle.road_judge.specs.Judged.{pick_in}
 use Rattle.road_judge.proofs.FaultsLaws.{size_is, told_none, told-lowest, told-size}
-use Rattle.road_made.specs.Made.{Answer}
+use Rattle.road_made.specs.declared.Made.{Made}
 use Rattle.road_read.specs.Read.{table_due, Tabled, ReadAs, Read}
 
 pub length-due : (arcs : List Arc) → length (table_due arcs) ≡ length arcs * 16
@@ -44,20 +45,20 @@ module _ (text table : List ℕ) where
   nodes = (feed unfed text).said.nodes
 
   -- an answer that is refused, with the table as it was
-  pub read-malformed : (refusal : Refusal) → told_of refusal ≡ beside file (wrong_by (reader_of (feed unfed text))) → wrong_by (reader_of (feed unfed text)) ≢ 0 → Read text table (Err refusal) table
+  pub read-malformed : (told : Told) → told ≡ beside file (wrong_by (reader_of (feed unfed text))) → wrong_by (reader_of (feed unfed text)) ≢ 0 → Read text table (Err told) table
   unfolding roads_in
-  read-malformed refusal e ne =
-      subst (λ r. ReadAs r table (Err refusal) table) (sym (ended-wrong (feed unfed text) ne)) (record { told_is = e; bytes-is = refl; nodes-is = refl; area-is = refl })
+  read-malformed told e ne =
+      subst (λ r. ReadAs r table (Err told) table) (sym (ended-wrong (feed unfed text) ne)) (record { told_is = e; bytes-is = refl; nodes-is = refl; area-is = refl })
 
   module _ (fine : wrong_by (reader_of (feed unfed text)) ≡ 0) where
-    tabled : (answer : Answer) (table' : List ℕ) → Tabled nodes arcs table answer table' → Read text table answer table'
+    tabled : (answer : Result Made Told) (table' : List ℕ) → Tabled nodes arcs table answer table' → Read text table answer table'
     unfolding roads_in
     tabled answer table' t = subst (λ r. ReadAs r table answer table') (sym (ended-good (feed unfed text) fine)) t
 
-    pub read-faulty : (refusal : Refusal) → told_of refusal ≡ table_fault nodes (table_due arcs) → Read text table (Err refusal) table
+    pub read-faulty : (refusal : Refusal) → told_of refusal ≡ table_fault nodes (table_due arcs) → Read text table (Err (told_of refusal)) table
     read-faulty refusal e =
         let ne = refused_not_zero refusal in
-        tabled (Err refusal) table
+        tabled (Err (told_of refusal)) table
         (record {
           faulty = λ k. record { told_is = e; bytes-is = refl; nodes-is = refl; area-is = refl };
           small = λ k h. absurd (ne (ap (λ z. z.outcome) (e ∙ k)));
@@ -65,9 +66,9 @@ module _ (text table : List ℕ) where
         })
 
     module _ (is-good : table_fault nodes (table_due arcs) ≡ good) where
-      pub read_small : (refusal : Refusal) → told_of refusal ≡ plain buffers → length table < length (table_due arcs) → Read text table (Err refusal) table
-      read_small refusal e h =
-          tabled (Err refusal) table
+      pub read_small : (told : Told) → told ≡ plain buffers → length table < length (table_due arcs) → Read text table (Err told) table
+      read_small told e h =
+          tabled (Err told) table
           (record {
             faulty = λ k. absurd (k is-good);
             small = λ k l. record { told_is = e; bytes-is = refl; nodes-is = refl; area-is = refl };

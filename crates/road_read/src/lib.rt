@@ -7,6 +7,7 @@ ghost use Rattle.table.specs.Fault.{table_fault};
 ghost use Rattle.road_file.specs.File.{unfed, feed};
 ghost use Rattle.road_file.specs.Reader.{reader_of};
 ghost use Rattle.road_judge.specs.Judged.{pick_of, pick_in};
+ghost use Rattle.road_made.specs.Made.{answer_of};
 ghost use Rattle.road_read.specs.Read.{table_due, Read};
 
 use outcome::{Outcome, Refusal};
@@ -40,7 +41,7 @@ fn fault_in(text: &[u8], judged: Judged) -> Result<(), Refusal>
 // is refused with 14, then the table made as everywhere, then too short an area with 10; a refusal
 // changes nothing.
 pub fn read(text: &[u8], table: &mut [u8]) -> Result<Made, Refusal>
-    ensures { Read text.now table.old result table.new }
+    ensures { Read text.now table.old (answer_of result) table.new }
 {
     let judged = road_judge::judge_text(text);
     let reader = judged.reader;

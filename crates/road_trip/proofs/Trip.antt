@@ -15,6 +15,8 @@ use lib.Seq.{take_at}
 use borrow.Author.Tests.{eqb-true, eqb-false}
 use Rattle.lists.specs.Index.{tab}
 use Rattle.lists.proofs.Cases.{cases, order}
+use Rattle.std.proofs.Common.{Result}
+use Rattle.outcome.specs.declared.Told.{Told}
 use Rattle.outcome.specs.Outcome.{found, plain}
 use Rattle.words.specs.Number.{num, put, bytes_of}
 use Rattle.words.proofs.BytesLaws.{put_is, bytes-append, bytes-bytes_of, number-first}
@@ -28,7 +30,8 @@ use Rattle.road_order.proofs.OrderedLaws.{InOrder, ordered_same}
 use Rattle.road_file.specs.File.{Roads, malformed, roads, roads_in}
 use Rattle.road_fill.specs.Filled.{cleared}
 use Rattle.road_fill.proofs.ClearLaws.{cleared-none, cleared-step}
-use Rattle.road_made.specs.Made.{Answer, told_of, bytes_made, nodes_made, Made-of}
+use Rattle.road_made.specs.declared.Made.{Made}
+use Rattle.road_made.specs.Made.{told_of, bytes_made, nodes_made, Made-of}
 use Rattle.road_read.specs.Read.{table_due, Tabled, ReadAs, Read}
 use Rattle.road_read.proofs.ReadLaws.{due-no-roads}
 use Rattle.road_write.specs.Written.{text_of, first_road, Written}
@@ -111,7 +114,7 @@ module _ (nodes : ℕ) (t : List ℕ) (bytes : (k : ℕ) → get_or t k 0 < 256)
 -- ---- the two calls
 
 -- "Writing a table and reading it back gives the same table" (document 02, item 2), which "holds for tables of zeros" (item 5): byte for byte, with its node count.
-pub write-then-read : (nodes : ℕ) (t text text' area area' : List ℕ) (w r : Answer) → ((k : ℕ) → get_or t k 0 < 256) → table_fault nodes t ≡ good → NoRoads t
+pub write-then-read : (nodes : ℕ) (t text text' area area' : List ℕ) (w r : Result Made Told) → ((k : ℕ) → get_or t k 0 < 256) → table_fault nodes t ≡ good → NoRoads t
     → length (text_of nodes t) ≤ length text → Written nodes t text w text' → Read (take (bytes_made w) text') area r area' → length t ≤ length area
     → Made-of (length t) nodes (t ++ drop (length t) area) r area'
 write-then-read nodes t text text' area area' w r bytes ok none fits written read room =
@@ -129,7 +132,7 @@ record Wrote (nodes : ℕ) (t text : List ℕ) : Type 0 where
   fits : length (text_of nodes t) ≤ length text
 
 -- none of the refusals has outcome 0
-wrote : (nodes : ℕ) (t text text' : List ℕ) (w : Answer) → Written nodes t text w text' → told_of w ≡ plain found → Wrote nodes t text
+wrote : (nodes : ℕ) (t text text' : List ℕ) (w : Result Made Told) → Written nodes t text w text' → told_of w ≡ plain found → Wrote nodes t text
 wrote nodes t text text' w written e =
     ⊎_elim
     (λ z.
@@ -152,7 +155,7 @@ wrote nodes t text text' w written e =
     (cases (eqb (table_fault nodes t).outcome 0))
 
 -- So what a write that is done has written gives its table back.
-pub written-then-read : (nodes : ℕ) (t text text' area area' : List ℕ) (w r : Answer) → ((k : ℕ) → get_or t k 0 < 256) → Written nodes t text w text' → told_of w ≡ plain found
+pub written-then-read : (nodes : ℕ) (t text text' area area' : List ℕ) (w r : Result Made Told) → ((k : ℕ) → get_or t k 0 < 256) → Written nodes t text w text' → told_of w ≡ plain found
     → Read (take (bytes_made w) text') area r area' → length t ≤ length area
     → Made-of (length t) nodes (t ++ drop (length t) area) r area'
 written-then-read nodes t text text' area area' w r bytes written e read room =
@@ -180,7 +183,7 @@ record Stands (nodes bytes : ℕ) (t : List ℕ) : Type 0 where
   none : NoRoads t
   long : length t ≡ bytes
 
-module _ (area area' : List ℕ) (r : Answer) where
+module _ (area area' : List ℕ) (r : Result Made Told) where
   abbrev Stood : Type 0
   Stood = Stands (nodes_made r) (bytes_made r) (take (bytes_made r) area')
 
@@ -213,7 +216,7 @@ module _ (area area' : List ℕ) (r : Answer) where
       (cases (eqb (table_fault n (table_due arcs)).outcome 0))
 
 -- A table that was read is one that can be written: no refusal but 10, where the buffer is too short for its text.
-pub read-then-written : (file text text' area area' : List ℕ) (r w : Answer) → Read file area r area' → told_of r ≡ plain found
+pub read-then-written : (file text text' area area' : List ℕ) (r w : Result Made Told) → Read file area r area' → told_of r ≡ plain found
     → Written (nodes_made r) (take (bytes_made r) area') text w text' → length (text_of (nodes_made r) (take (bytes_made r) area')) ≤ length text
     → told_of w ≡ plain found
 read-then-written file text text' area area' r w read e written fits =
@@ -221,7 +224,7 @@ read-then-written file text text' area area' r w read e written fits =
     (written.done g.fault (none_first _ g.none) fits).told_is
 
 -- A file that is read, written and read again gives the table that it gave at first.
-pub read-write-read : (file text text' area area' again again' : List ℕ) (r w s : Answer) → Read file area r area' → told_of r ≡ plain found
+pub read-write-read : (file text text' area area' again again' : List ℕ) (r w s : Result Made Told) → Read file area r area' → told_of r ≡ plain found
     → Written (nodes_made r) (take (bytes_made r) area') text w text' → told_of w ≡ plain found → Read (take (bytes_made w) text') again s again'
     → bytes_made r ≤ length again
     → Made-of (bytes_made r) (nodes_made r) (take (bytes_made r) area' ++ drop (bytes_made r) again) s again'

@@ -11,7 +11,7 @@ use lib.Dec.{eqb}
 use lib.ListN.{length, drop}
 use borrow.Author.Tests.{eqb-true, eqb-false}
 use Rattle.lists.proofs.Cases.{cases, order}
-use Rattle.std.proofs.Common.{Ok, Err}
+use Rattle.std.proofs.Common.{Result, Ok, Err}
 use Rattle.outcome.specs.declared.Told.{Told}
 use Rattle.outcome.specs.declared.Refusal.{Refusal}
 use Rattle.outcome.specs.Outcome.{buffers, numbered, plain, beside, told_of as told_by_refusal}
@@ -21,7 +21,8 @@ use Rattle.text_put.specs.Put.{Appended}
 use Rattle.table.specs.Table.{records}
 use Rattle.table.specs.Fault.{table_fault, good}
 use Rattle.table.proofs.FaultLaws.{told-good}
-use Rattle.road_made.specs.Made.{Answer, told_of, bytes_made, nodes_made, Unchanged}
+use Rattle.road_made.specs.declared.Made.{Made}
+use Rattle.road_made.specs.Made.{told_of, bytes_made, nodes_made, Unchanged}
 use Rattle.road_write.specs.Written.{text_of, first_road, Written}
 use Rattle.road_write.proofs.RoadLaws.{road-le}
 
@@ -31,7 +32,7 @@ unfolding patch
 front l x = rw zero-add
 
 module _ (nodes : ℕ) (t text : List ℕ) where
-  pub written-faulty : (refusal : Refusal) → told_by_refusal refusal ≡ table_fault nodes t → Written nodes t text (Err refusal) text
+  pub written-faulty : (refusal : Refusal) → told_by_refusal refusal ≡ table_fault nodes t → Written nodes t text (Err (told_by_refusal refusal)) text
   written-faulty refusal e =
       let no : table_fault nodes t ≢ good = λ g. refused_not_zero refusal (ap (λ x. x.outcome) (e ∙ g)) in
       record {
@@ -42,8 +43,8 @@ module _ (nodes : ℕ) (t text : List ℕ) where
       }
 
   module _ (g : table_fault nodes t ≡ good) where
-    pub written-on-roads : (refusal : Refusal) → told_by_refusal refusal ≡ beside numbered (first_road t) → first_road t < records t → Written nodes t text (Err refusal) text
-    written-on-roads refusal e h = record {
+    pub written-on-roads : (told : Told) → told ≡ beside numbered (first_road t) → first_road t < records t → Written nodes t text (Err told) text
+    written-on-roads told e h = record {
       faulty = λ f. absurd (f g);
       on-roads = λ k w. record { told_is = e; bytes-is = refl; nodes-is = refl; area-is = refl };
       small = λ k n w. absurd (omega arith);
@@ -51,8 +52,8 @@ module _ (nodes : ℕ) (t text : List ℕ) where
     }
 
     module _ (none : first_road t ≡ records t) where
-      pub written_small : (refusal : Refusal) → told_by_refusal refusal ≡ plain buffers → length text < length (text_of nodes t) → Written nodes t text (Err refusal) text
-      written_small refusal e h = record {
+      pub written_small : (told : Told) → told ≡ plain buffers → length text < length (text_of nodes t) → Written nodes t text (Err told) text
+      written_small told e h = record {
         faulty = λ f. absurd (f g);
         on-roads = λ k w. absurd (omega arith);
         small = λ k n w. record { told_is = e; bytes-is = refl; nodes-is = refl; area-is = refl };
@@ -69,12 +70,12 @@ module _ (nodes : ℕ) (t text : List ℕ) where
       }
 
 -- two refusals with one outcome
-unchanged-same : (told : Told) (text : List ℕ) (a b : Answer) (x y : List ℕ) → Unchanged told text a x → Unchanged told text b y
+unchanged-same : (told : Told) (text : List ℕ) (a b : Result Made Told) (x y : List ℕ) → Unchanged told text a x → Unchanged told text b y
     → (told_of a ≡ told_of b) × (bytes_made a ≡ bytes_made b) × (nodes_made a ≡ nodes_made b) × (x ≡ y)
 unchanged-same told text a b x y p q = (p.told_is ∙ sym q.told_is, p.bytes-is ∙ sym q.bytes-is, p.nodes-is ∙ sym q.nodes-is, p.area-is ∙ sym q.area-is)
 
 -- two writes of one table into one buffer tell the same, and leave the same
-pub written_same : (nodes : ℕ) (t text : List ℕ) (a b : Answer) (x y : List ℕ) → Written nodes t text a x → Written nodes t text b y
+pub written_same : (nodes : ℕ) (t text : List ℕ) (a b : Result Made Told) (x y : List ℕ) → Written nodes t text a x → Written nodes t text b y
     → (told_of a ≡ told_of b) × (bytes_made a ≡ bytes_made b) × (nodes_made a ≡ nodes_made b) × (x ≡ y)
 written_same nodes t text a b x y v w =
     ⊎_elim

@@ -1,10 +1,12 @@
 -- What a write gives (documents 01 and 02.2): its answer, and the lent buffer afterwards.
-use Rattle.std.specs.Prelude.{◌≡◌, not, List, ◌++◌, ◌≢◌, ℕ, ◌≤◌, ◌<◌, eqb, length, drop}
+use Rattle.std.specs.Prelude.{◌≡◌, not, List, ◌++◌, ◌≢◌, ℕ, ◌≤◌, ◌<◌, eqb, length, drop, Result}
 use Rattle.lists.specs.Index.{first_at}
+use Rattle.outcome.specs.declared.Told.{Told}
 use Rattle.outcome.specs.Outcome.{buffers, numbered, plain, beside}
 use Rattle.table.specs.Table.{records, road_at, arcs_of}
 use Rattle.table.specs.Fault.{table_fault, good}
-use Rattle.road_made.specs.Made.{Answer, Unchanged, Made-of}
+use Rattle.road_made.specs.declared.Made.{Made}
+use Rattle.road_made.specs.Made.{Unchanged, Made-of}
 use Rattle.road_write.specs.Text.{roads_text}
 
 -- The text that is due.
@@ -16,7 +18,7 @@ unfoldable pub first_road : List ℕ → ℕ
 unfolding first_at
 first_road table = first_at (λ i. not (eqb (road_at table i) 0)) (records table) 0
 
-pub record Written (nodes : ℕ) (table text : List ℕ) (answer : Answer) (text' : List ℕ) : Type 0 where
+pub record Written (nodes : ℕ) (table text : List ℕ) (answer : Result Made Told) (text' : List ℕ) : Type 0 where
   -- "The writer refuses a table as 01 does."
   pub faulty : table_fault nodes table ≢ good → Unchanged (table_fault nodes table) text answer text'
   -- "27, the writer meets a road number that isn't zero, with the lowest such record, after 6" (02.5)

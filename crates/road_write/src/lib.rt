@@ -5,6 +5,7 @@ ghost use Rattle.std.specs.Prelude.{◌≡◌, ◌+◌, ◌≤◌, ◌<◌, leng
 ghost use Rattle.net.specs.Limits.{most_arcs};
 ghost use Rattle.text_put.specs.Put.{Appended};
 ghost use Rattle.table.specs.Table.{records, arc_at, arcs_of};
+ghost use Rattle.road_made.specs.Made.{answer_of};
 ghost use Rattle.road_write.specs.Text.{sizes_text, line_text, arc_text, ended, lines_text};
 ghost use Rattle.road_write.specs.Written.{text_of, first_road, Written};
 
@@ -123,7 +124,7 @@ fn first_road(table: &[u8]) -> Option<usize>
 // shorter than the file, with 10; a refusal changes nothing.
 pub fn write(table: &[u8], nodes: u32, text: &mut [u8]) -> Result<Made, Refusal>
     ensures { Written nodes table.now text.old
-        result text.new }
+        (answer_of result) text.new }
 {
     table::fault::check(table, nodes)?;
     if let Some(road) = first_road(table) {

@@ -1,7 +1,8 @@
 // Cells: a case, an answer and the tally each stand in an array, whose size and last cells are the
 // program's own.
-ghost use Rattle.std.specs.Prelude.{◌≡◌, get_or, set};
+ghost use Rattle.std.specs.Prelude.{◌≡◌, ◌-◌, get_or, set};
 ghost use Rattle.test_cells.specs.Bounded.{sum, product};
+ghost use Rattle.test_draw.specs.Written.{written};
 
 // A case, as test_listing::answer takes it: what is asked, then five numbers of each arc.
 pub const NODES: usize = 0;
@@ -70,17 +71,23 @@ pub fn of_arc(case: &[usize], i: usize, j: usize) -> usize
 }
 
 // The words of a slot.
-pub fn width(case: &[usize]) -> usize {
+pub fn width(case: &[usize]) -> usize
+    ensures { result ≡ get_or case.now 0 0 - 1 }
+{
     test_cells::less_one(test_cells::get(case, NODES))
 }
 
 // The words of the k slots.
-pub fn wanted(case: &[usize]) -> usize {
+pub fn wanted(case: &[usize]) -> usize
+    ensures { result ≡ product (get_or case.now 4 0) (get_or case.now 0 0 - 1) }
+{
     test_cells::mul(test_cells::get(case, ROUTES), width(case))
 }
 
 // The bytes of working room that the nodes need.
-pub fn work_needed(case: &[usize]) -> usize {
+pub fn work_needed(case: &[usize]) -> usize
+    ensures { result ≡ product (get_or case.now 0 0) 64 }
+{
     test_cells::mul(test_cells::get(case, NODES), WORK_NODE)
 }
 
@@ -93,7 +100,9 @@ pub fn count(cells: &mut [usize], i: usize, n: usize)
 }
 
 // The case gets zeros in place of its road numbers.
-pub fn clear_roads(case: &mut [usize]) {
+pub fn clear_roads(case: &mut [usize])
+    ensures { case.new ≡ written (λ i. sum (sum (product i 5) 13) 3) (λ i. 0) 12 case.old }
+{
     for i in 0..MOST_ARCS {
         test_cells::put(case, place(i, ROAD), 0);
     }

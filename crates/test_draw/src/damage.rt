@@ -1,15 +1,21 @@
 // A good text damaged at each byte in turn: a byte of each kind in its place, the byte left out, and
 // the byte doubled.
+ghost use Rattle.std.specs.Prelude.{◌≡◌, ◌≤◌, ◌*◌, length};
+ghost use Rattle.test_cells.specs.Bounded.{sum, product};
 
 const MOST: usize = 64;
 
 // How often each byte is damaged.
-fn damages(kinds: &[u8]) -> usize {
+fn damages(kinds: &[u8]) -> usize
+    ensures { result ≡ sum (length kinds.now) 2 }
+{
     test_cells::add(kinds.len(), 2)
 }
 
 // How many damaged texts there are.
-pub fn texts(text: &[u8], kinds: &[u8]) -> usize {
+pub fn texts(text: &[u8], kinds: &[u8]) -> usize
+    ensures { result ≡ product (length text.now) (sum (length kinds.now) 2) }
+{
     test_cells::mul(text.len(), damages(kinds))
 }
 
@@ -44,6 +50,7 @@ fn length(text: &[u8], kinds: &[u8], damage: usize) -> usize {
 // How many of the damaged texts agree, as is told of each by whether all before it did.
 pub fn agreed<F: Fn(&[u8], bool) -> bool>(text: &[u8], kinds: &[u8], agrees: F) -> usize
     requires { F.IsAlwaysCallable agrees }
+    ensures { result ≤ length text.now * sum (length kinds.now) 2 }
 {
     let damages = damages(kinds);
     let mut agreed = 0;

@@ -1,4 +1,7 @@
 // Drawn tables: what is asked of a table, and its arcs.
+ghost use Rattle.std.specs.Prelude.{◌≡◌, ◌≤◌, ◌<◌, ◌-◌, ℕ, length, get_or, IsTrue};
+ghost use Rattle.test_cells.specs.Bounded.{sum, product};
+
 use crate::cells;
 use crate::draw::{below, either, once_in, rest};
 
@@ -39,14 +42,21 @@ pub struct Table {
 }
 
 // One number for both directions between two nodes.
-pub fn street(from: usize, to: usize) -> usize {
+pub fn street(from: usize, to: usize) -> usize
+    ensures up { from < to → result ≡ sum (sum (product to 8) from) 1 }
+    ensures down { to ≤ from → result ≡ sum (sum (product from 8) to) 1 }
+{
     let low = test_cells::pick(from < to, from, to);
     let high = test_cells::pick(from < to, to, from);
     test_cells::add(test_cells::place(high, 8, low), 1)
 }
 
 // One of the three greatest numbers, or 0.
-pub fn greatest(x: usize) -> usize {
+pub fn greatest(x: usize) -> usize
+    ensures none { x ≡ 0 → result ≡ 0 }
+    ensures one { 0 < x → x ≤ 3 → result ≡ 4294967296 - x }
+    ensures past { 3 < x → result ≡ 0 }
+{
     if x == 0 || x > 3 { 0 } else { 4294967296 - x }
 }
 
@@ -56,7 +66,9 @@ fn of_arc(i: usize, j: usize) -> usize {
 }
 
 impl Table {
-    fn width(self) -> usize {
+    fn width(self) -> usize
+        ensures { result ≡ self.nodes - 1 }
+    {
         test_cells::less_one(self.nodes)
     }
 
@@ -136,7 +148,10 @@ impl Table {
         test_cells::pick(once_in(self.case, 17, 4), closed as usize, 0)
     }
 
-    fn put_arc(self, case: &mut [usize], i: usize) {
+    #[tactic(auto, using(crate::proofs::Places::asked_kept))]
+    fn put_arc(self, case: &mut [usize], i: usize)
+        ensures { (k : ℕ) → k < 13 → get_or case.new k 0 ≡ get_or case.old k 0 }
+    {
         let from = self.start(i);
         let to = self.end(i, from);
         test_cells::put(case, cells::place(i, cells::FROM), from);
@@ -147,18 +162,29 @@ impl Table {
     }
 
     // Words of the area: those of so many slots, and some more.
-    pub fn words(self, routes: usize) -> usize {
+    pub fn words(self, routes: usize) -> usize
+        ensures { (n : ℕ) × (n ≤ 3) × (result ≡ sum (product (self.nodes - 1) routes) n) }
+    {
         test_cells::place(self.width(), routes, below(self.case, 10, 4))
     }
 
     // Bytes of working room past those that the nodes need.
-    pub fn more_work(self) -> usize {
+    pub fn more_work(self) -> usize
+        ensures { result ≤ 63 }
+    {
         below(self.case, 14, 64)
     }
 
     // A query for so many routes on the table, with closures, the words of its slots and room for all
     // labels; what else is asked, the program puts there.
-    pub fn put(self, case: &mut [usize], routes: usize) {
+    pub fn put(self, case: &mut [usize], routes: usize)
+        ensures same_length { length case.new ≡ length case.old }
+        ensures nodes { 13 ≤ length case.old → get_or case.new 0 0 ≡ self.nodes }
+        ensures arcs { 13 ≤ length case.old → get_or case.new 1 0 ≡ self.arcs }
+        ensures routes { 13 ≤ length case.old → get_or case.new 4 0 ≡ routes }
+        ensures closures { 13 ≤ length case.old
+            → (get_or case.new 11 0 ≡ 1) × (get_or case.new 12 0 ≡ self.arcs) }
+    {
         test_cells::put(case, cells::NODES, self.nodes);
         test_cells::put(case, cells::ARC_COUNT, self.arcs);
         test_cells::put(case, cells::START, self.first_node());
@@ -175,7 +201,12 @@ impl Table {
 }
 
 // A table that has many routes: in a row, or many to the goal. Half of the tables have no road numbers.
-pub fn many(case: usize, in_row: bool) -> Table {
+pub fn many(case: usize, in_row: bool) -> Table
+    ensures number { result.case ≡ case }
+    ensures nodes { (2 ≤ result.nodes) × (result.nodes < 7) }
+    ensures arcs { (1 ≤ result.arcs) × (result.arcs < 13) }
+    ensures lengths { IsTrue in_row → result.lengths ≡ 2 }
+{
     let lengths = test_cells::pick(once_in(case, 16, 2), 3, 9);
     Table {
         case,
@@ -192,7 +223,13 @@ pub fn many(case: usize, in_row: bool) -> Table {
 }
 
 // The query for so many routes at 0/1 on such a table, with the working room.
-pub fn put_many(case: &mut [usize], table: Table, routes: usize) {
+pub fn put_many(case: &mut [usize], table: Table, routes: usize)
+    ensures same_length { length case.new ≡ length case.old }
+    ensures nodes { 13 ≤ length case.old → get_or case.new 0 0 ≡ table.nodes }
+    ensures threshold { 13 ≤ length case.old → get_or case.new 6 0 ≡ 1 }
+    ensures room { 78 < length case.old
+        → (n : ℕ) × (n ≤ 63) × (get_or case.new 78 0 ≡ sum (product table.nodes 64) n) }
+{
     let nodes = test_cells::mul(table.nodes, cells::WORK_NODE);
     table.put(case, routes);
     test_cells::put(case, cells::THRESHOLD_B, 1);

@@ -1,5 +1,6 @@
 // The tally, and the first difference in full.
-ghost use Rattle.std.specs.Prelude.{◌≢◌, IsTrue};
+ghost use Rattle.std.specs.Prelude.{◌≡◌, ◌≢◌, get_or, set, IsTrue};
+ghost use Rattle.test_cells.specs.Bounded.{sum};
 
 use crate::cells;
 
@@ -28,7 +29,13 @@ pub fn difference(of: &[usize], due: &[usize], got: &[usize]) {
 
 // Counts, in that cell of the tally, a call that gave something else than is due. Is it the first?
 pub fn differs(tally: &mut [usize], cell: usize, due: &[usize], got: &[usize]) -> bool
-    ensures { IsTrue result → due.now ≢ got.now }
+    ensures differs { IsTrue result → due.now ≢ got.now }
+    ensures first { IsTrue result → get_or tally.old cell 0 ≡ 0 }
+    ensures told { due.now ≢ got.now → get_or tally.old cell 0 ≡ 0 → IsTrue result }
+    ensures alike { due.now ≡ got.now
+        → tally.new ≡ set tally.old cell (sum (get_or tally.old cell 0) 0) }
+    ensures apart { due.now ≢ got.now
+        → tally.new ≡ set tally.old cell (sum (get_or tally.old cell 0) 1) }
 {
     let differs = due != got;
     let first = test_cells::get(tally, cell) == 0;
@@ -37,7 +44,12 @@ pub fn differs(tally: &mut [usize], cell: usize, due: &[usize], got: &[usize]) -
 }
 
 // The same, where the first is printed.
-pub fn compare(tally: &mut [usize], cell: usize, case: &[usize], due: &[usize], got: &[usize]) {
+pub fn compare(tally: &mut [usize], cell: usize, case: &[usize], due: &[usize], got: &[usize])
+    ensures alike { due.now ≡ got.now
+        → tally.new ≡ set tally.old cell (sum (get_or tally.old cell 0) 0) }
+    ensures apart { due.now ≢ got.now
+        → tally.new ≡ set tally.old cell (sum (get_or tally.old cell 0) 1) }
+{
     if differs(tally, cell, due, got) {
         difference(case, due, got);
     }

@@ -1,5 +1,6 @@
 // Faults: each is one cell of a case made wrong.
-ghost use Rattle.std.specs.Prelude.{◌≡◌, ◌<◌, ◌≤◌, ◌↔◌, ◌⊎◌, IsSome};
+ghost use Rattle.std.specs.Prelude.{◌≡◌, ◌<◌, ◌≤◌, ◌↔◌, ◌⊎◌, ℕ, IsSome};
+ghost use Rattle.test_draw.specs.Written.{written};
 
 use crate::cells;
 use crate::draw::{below, rest};
@@ -70,6 +71,8 @@ pub fn twice<F: Fn(&[usize], usize, usize) -> Option<Fault>>(
     of_kind: F,
 )
     requires { F.IsAlwaysCallable of_kind }
+    ensures { (at : ℕ → ℕ) × (value : ℕ → ℕ) × (n : ℕ) × (n ≤ 2)
+        × (case.new ≡ written at value n case.old) }
 {
     let arcs = test_cells::get(case, cells::ARC_COUNT);
     let drawn = below(number, 21, test_cells::mul(kinds, 2));

@@ -5,8 +5,8 @@ use Rattle.words.proofs.PartLaws.{back, lent}
 use Rattle.near_pick.proofs.SlotLaws.{slot-words}
 use Rattle.near_pick.proofs.put_route.Goals as goal
 
-pub copy_from_slice-requires : goal.copy_from_slice-requires
-copy_from_slice-requires c =
+pub copy-requires : goal.copy-requires
+copy-requires c =
     omega (
       arith,
       lent (c.args.j * c.args.w) (c.args.j * c.args.w + c.args.w) c.args.area.now (omega arith) c.requires.1,
@@ -16,5 +16,5 @@ copy_from_slice-requires c =
 
 pub returns : goal.returns
 returns c =
-    back (c.args.j * c.args.w) (c.args.j * c.args.w + c.args.w) c.args.area.now c.copy_from_slice.new.self (omega arith)
-    ∙ ap (patch (c.args.j * c.args.w) (c.args.j * c.args.w + c.args.w) c.args.area.now) (c.copy_from_slice.ensures.after ∙ c.slot.ensures)
+    back (c.args.j * c.args.w) (c.args.j * c.args.w + c.args.w) c.args.area.now c.copy.new.to (omega arith)
+    ∙ ap (patch (c.args.j * c.args.w) (c.args.j * c.args.w + c.args.w) c.args.area.now) (c.copy.ensures ∙ c.slot.ensures)
