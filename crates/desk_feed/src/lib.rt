@@ -111,7 +111,9 @@ fn take(x: Taken, byte: u8, first: &mut [u8], table: &mut [u8]) -> Taken
     }
 }
 
-// A part of the input, behind what was fed before.
+// A part of the input, behind what was fed before. Inlined, since where it is called a byte of a
+// comment takes three tenths more instructions.
+#[inline(always)]
 pub fn feed(x: Taken, part: &[u8], first: &mut [u8], table: &mut [u8]) -> Taken
     requires { table_bytes ≤ length table.old }
     ensures { state result first.new table.new

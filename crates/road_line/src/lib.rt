@@ -89,18 +89,23 @@ fn byte_of(s: &[u8], at: usize) -> u16
     NO_BYTE
 }
 
-// The byte at a place of the start of such lines.
+// The byte at a place of the start of such lines. Tests in turn, since a match over all five kinds
+// jumps by a table at every byte: one of a comment then takes a fifth more instructions.
 #[tactic(auto, unfolding(crate::specs::Scan::expected_at, crate::specs::Scan::start_of))]
 fn expected(kind: Kind, at: u8) -> u16
     ensures { result ≡ expected_at kind at }
 {
     let place = at as usize;
-    match kind {
-        Kind::Sizes => byte_of(b"p sp ", place),
-        Kind::Arc => byte_of(b"a ", place),
-        Kind::Comment => byte_of(b"c ", place),
-        Kind::Unknown | Kind::Other => NO_BYTE,
+    if kind == Kind::Sizes {
+        return byte_of(b"p sp ", place);
     }
+    if kind == Kind::Arc {
+        return byte_of(b"a ", place);
+    }
+    if kind == Kind::Comment {
+        return byte_of(b"c ", place);
+    }
+    NO_BYTE
 }
 
 // What a line with this first byte may be.
